@@ -1,0 +1,94 @@
+-- `float_bits::nearest_magnitude` meets its contract: each answer is that of the test that led there. Assumes nothing.
+use borrow.Author.Needs.{needs}
+use borrow.Author.Tests.{lt-ltb, le-ltb, le-leb, lt-leb}
+use Prim.Native.Nat.{ℕ, _+_, _-_, _*_, _%_, _/_, _^_, _<_, _≤_}
+use mathlib.Core.Path.{_≡_, sym, ap, subst}
+use lib.Ieee.Nearest.{closest}
+use native.Mathlib.Omega.{arith}
+use native.Mathlib.Nat.{le-trans, lt-of-lt-of-le}
+use lib.Dec.{lit≤}
+use lib.Pow.{pow-mono}
+use Rattle.float_bits.specs.Nearest.{nearestMagnitude}
+use Rattle.float_bits.proofs.Round.{closest-le}
+use Rattle.float_bits.proofs.nearest_magnitude.Statement.{statement}
+use Rattle.float_bits.proofs.nearest_magnitude.Tie as tie
+use Rattle.float_bits.proofs.nearest_magnitude.Reads as reads
+use Rattle.float_bits.proofs.nearest_magnitude.Lts as lts
+use Rattle.float_bits.proofs.shift_to_nearest.Reads as shift-to-nearest-reads
+
+returns : tie.Need-returns
+unfolding nearestMagnitude
+returns c = (simp (lt-ltb _ _ (c .if1 .taken)), search needs)
+
+returns-2 : tie.Need-returns-2
+unfolding nearestMagnitude
+returns-2 c = (simp (le-ltb _ _ (c .before .if1 .left), le-leb _ _ (c .if2 .taken)), search needs)
+
+add-sig : tie.Need-add-sig
+add-sig c = search needs
+
+mul-result : tie.Need-mul-result
+mul-result c = search needs
+
+shift-to-nearest-requires : tie.Need-shift-to-nearest-requires
+shift-to-nearest-requires c κs = search needs
+
+-- what was kept has at most 25 digits
+kept : (m q : ℕ) → q ≡ closest (2 ^ 52 + m % 2 ^ 52) (2 ^ 29) → q ≤ 2 ^ 24
+kept m q e =
+    let h : 2 ^ 52 + m % 2 ^ 52 < 2 ^ 53 = omega arith in
+    subst (λ (x : ℕ). x ≤ 2 ^ 24) (sym e) (closest-le (2 ^ 52 + m % 2 ^ 52) 29 24 h)
+
+kept-low : (m r q : ℕ) → 30 ≤ r → q ≡ closest (2 ^ 52 + m % 2 ^ 52) (2 ^ r) → q ≤ 2 ^ 23
+kept-low m r q l e =
+    let h : 2 ^ 52 + m % 2 ^ 52 < 2 ^ 53 = omega arith in
+    let k : 53 ≤ 23 + r = omega arith in
+    subst (λ (x : ℕ). x ≤ 2 ^ 23) (sym e) (closest-le (2 ^ 52 + m % 2 ^ 52) r 23 (lt-of-lt-of-le h (pow-mono k)))
+
+add-result : tie.Need-add-result
+add-result c =
+    let m = c .before .before .before .before .args .m in
+    omega (arith, kept m (c .shift-to-nearest .result) (c .shift-to-nearest .ensures))
+
+returns-3 : tie.Need-returns-3
+unfolding nearestMagnitude
+returns-3 c =
+    let m = c .before .before .before .before .args .m in (
+      simp (le-ltb _ _ (c .before .before .before .if1 .left), lt-leb _ _ (c .before .before .if2 .left), le-leb _ _ (c .before .if3 .taken)) (ap (λ (x : ℕ). (m / 2 ^ 52 - 897) * 2 ^ 23 + x) (c .shift-to-nearest .ensures)),
+      omega (arith, kept m (c .shift-to-nearest .result) (c .shift-to-nearest .ensures)),
+    )
+
+sub-shift-to-nearest : tie.Need-sub-shift-to-nearest
+sub-shift-to-nearest c = search needs
+
+shift-to-nearest-requires-2 : tie.Need-shift-to-nearest-requires-2
+shift-to-nearest-requires-2 c κs = search needs
+
+returns-4 : tie.Need-returns-4
+unfolding nearestMagnitude
+returns-4 c =
+    let m = c .before .before .before .before .before .args .m in
+    let l : 30 ≤ 926 - m / 2 ^ 52 = omega arith in (
+      simp (le-ltb _ _ (c .before .before .before .before .if1 .left), lt-leb _ _ (c .before .before .before .if2 .left), lt-leb _ _ (c .before .before .if3 .left), le-leb _ _ (c .before .if4 .taken)) (c .shift-to-nearest2 .ensures),
+      omega (arith, kept-low m (926 - m / 2 ^ 52) (c .shift-to-nearest2 .result) l (c .shift-to-nearest2 .ensures)),
+    )
+
+returns-5 : tie.Need-returns-5
+unfolding nearestMagnitude
+returns-5 c = (simp (le-ltb _ _ (c .before .before .before .if1 .left), lt-leb _ _ (c .before .before .if2 .left), lt-leb _ _ (c .before .if3 .left), lt-leb _ _ (c .if4 .left)), search needs)
+
+pub nearest-magnitude-spec : {M : Type 1} → statement M
+nearest-magnitude-spec =
+    tie.close
+    (tie.spec
+    returns
+    returns-2
+    add-sig
+    mul-result
+    shift-to-nearest-requires
+    add-result
+    returns-3
+    sub-shift-to-nearest
+    shift-to-nearest-requires-2
+    returns-4
+    returns-5)
