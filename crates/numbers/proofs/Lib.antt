@@ -1,0 +1,9 @@
+pub mod Signs
+pub mod Ranges
+pub mod Wrap
+pub mod Sums
+pub mod Native
+pub mod Orders
+pub mod Pairs
+pub mod Whole
+pub mod CastLaws

@@ -1,0 +1,44 @@
+-- `numbers::integers::checked` meets its contract: a number in range wraps to itself. Assumes nothing.
+use borrow.Author.Needs.{needs}
+use mathlib.Core.Path.{_≡_, refl, sym, ap, _∙_}
+use mathlib.Core.Bool.{Bool, true, false}
+use Prim.Native.Nat.{ℕ}
+use lib.IntN.{ℤ, pos}
+use Rattle.numbers.specs.declared.Number.{Number}
+use Rattle.numbers.specs.declared.NumberAnswer.the-variants.{Value, Overflow}
+use Rattle.numbers.specs.declared.IntKind.{IntKind}
+use Rattle.numbers.specs.Kinds.{inRange, asKind, lowBits, wrapping}
+use Rattle.numbers.specs.Scalars.{valueOf}
+use Rattle.numbers.specs.Answers.{pick}
+use Rattle.numbers.specs.Arithmetic.{checked}
+use Rattle.numbers.proofs.Wrap.{wrapping-word, wrapping-in}
+use Rattle.numbers.proofs.integers.checked.Statement.{statement}
+use Rattle.numbers.proofs.integers.checked.Tie as tie
+
+exact : (k : IntKind) (z : ℤ) {w : ℕ} {r : Number} → w ≡ lowBits 64 z → inRange k z ≡ true → r ≡ asKind k (wrapping k (pos w)) → Value r ≡ checked k z
+unfolding checked
+exact k z e h q = ap Value (q ∙ ap (asKind k) (wrapping-word k z e ∙ wrapping-in k z h)) ∙ sym (ap (λ (b : Bool). pick b (Value (asKind k z)) Overflow) h)
+
+over : (k : IntKind) (z : ℤ) → inRange k z ≡ false → Overflow ≡ checked k z
+unfolding checked
+over k z h = sym (ap (λ (b : Bool). pick b (Value (asKind k z)) Overflow) h)
+
+in-range-requires : tie.Need-in-range-requires
+in-range-requires c κs = search needs
+
+word-of-requires : tie.Need-word-of-requires
+word-of-requires c κs = search needs
+
+number-of-word-requires : tie.Need-number-of-word-requires
+number-of-word-requires c κs = search needs
+
+returns : tie.Need-returns
+returns c = exact (c .before .before .before .before .args .kind) (valueOf (c .before .before .before .before .args .x)) (c .before .word-of .ensures) (sym (c .before .before .before .in-range .ensures) ∙ (c .before .before .if1 .taken)) (c .number-of-word .ensures)
+
+returns-2 : tie.Need-returns-2
+returns-2 c = over (c .before .before .args .kind) (valueOf (c .before .before .args .x)) (sym (c .before .in-range .ensures) ∙ (c .if1 .left))
+
+pub checked-spec : {M : Type 1} → statement M
+checked-spec =
+    tie.close
+    (tie.spec in-range-requires word-of-requires number-of-word-requires returns returns-2)

@@ -1,0 +1,25 @@
+-- `numbers::integers::in_range` meets its contract: by the sign, the bound on that side. Assumes nothing.
+use borrow.Author.Needs.{needs}
+use mathlib.Core.Path.{_≡_, refl, sym, ap, _∙_}
+use lib.Dec.{leb}
+use Rattle.numbers.specs.Kinds.{inRange}
+use Rattle.numbers.proofs.Signs.{value-neg, value-pos}
+use Rattle.numbers.proofs.Ranges.{in-range-neg}
+use Rattle.numbers.proofs.integers.in_range.Statement.{statement}
+use Rattle.numbers.proofs.integers.in_range.Tie as tie
+
+least-magnitude-requires : tie.Need-least-magnitude-requires
+least-magnitude-requires c κs = search needs
+
+greatest-of-requires : tie.Need-greatest-of-requires
+greatest-of-requires c κs = search needs
+
+returns : tie.Need-returns
+returns c = ap (leb (c .before .before .args .x .magnitude)) (c .least-magnitude .ensures) ∙ in-range-neg (c .before .before .args .kind) (c .before .before .args .x .magnitude) ∙ sym (ap (inRange (c .before .before .args .kind)) (value-neg (c .before .before .args .x) (c .before .if1 .taken)))
+
+returns-2 : tie.Need-returns-2
+returns-2 c = ap (leb (c .before .before .args .x .magnitude)) (c .greatest-of .ensures) ∙ sym (ap (inRange (c .before .before .args .kind)) (value-pos (c .before .before .args .x) (c .before .if1 .left)))
+
+pub in-range-spec : {M : Type 1} → statement M
+in-range-spec =
+    tie.close (tie.spec least-magnitude-requires greatest-of-requires returns returns-2)

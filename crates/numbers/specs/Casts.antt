@@ -1,0 +1,76 @@
+-- Cast: ten targets from nine kinds.
+use Prim.Native.Nat.{ℕ, _%_, _^_}
+use mathlib.Core.Bool.{Bool, true, false, not}
+use mathlib.Core.List.{List, [], _∷_}
+use lib.IntN.{ℤ}
+use lib.Dec.{ltb, eqb}
+use lib.Ieee as Ieee
+use lib.Ieee.{binary64}
+use Rattle.float_bits.specs.Nearest.{nearestBinary32}
+use Rattle.numbers.specs.declared.Number.{Number}
+use Rattle.numbers.specs.declared.Number.the-variants.{Int, Float, SFloat}
+use Rattle.numbers.specs.declared.NumberAnswer.{NumberAnswer}
+use Rattle.numbers.specs.declared.NumberAnswer.the-variants.{Value, InvalidCast}
+use Rattle.numbers.specs.declared.IntKind.{IntKind}
+use Rattle.numbers.specs.declared.IntKind.the-variants.{I64, U64, I32, U32, U8, I8, U16, I16}
+use Rattle.numbers.specs.declared.CastTarget.{CastTarget}
+use Rattle.numbers.specs.declared.CastTarget.the-variants.{ToInteger, ToFloat, ToSFloat}
+use Rattle.numbers.specs.declared.WholePart.{WholePart}
+use Rattle.numbers.specs.declared.WholePart.the-variants.{Below64, Below127, Beyond}
+use Rattle.numbers.specs.Kinds.{intKindCode, inRange, asKind, wrapping}
+use Rattle.numbers.specs.Scalars.{Scalar, integer, double, single, scalarOf}
+use Rattle.numbers.specs.Answers.{pick}
+
+-- "Targets: 0 Int, 1 Float, 2 UInt, 3 SFloat, 4 SUInt, 5 SInt, 6 BByte, 7 BSByte, 8 Byte, 9 SByte"
+abbrev pub castTargets : List CastTarget
+castTargets =
+    ToInteger I64
+    ∷ ToFloat
+    ∷ ToInteger U64
+    ∷ ToSFloat
+    ∷ ToInteger U32
+    ∷ ToInteger I32
+    ∷ ToInteger U16
+    ∷ ToInteger I16
+    ∷ ToInteger U8
+    ∷ ToInteger I8
+    ∷ []
+
+-- "A float becomes whole by truncation, NaN as 0, held to -2^127 .. 2^127 - 1"
+abbrev pub truncated : Scalar → ℤ
+truncated (integer k z) = z
+truncated (double x) = Ieee.toSigned 127 x
+truncated (single x) = Ieee.toSigned 127 x
+
+-- "To Float: nearest even"; an SFloat is a Float as it stands
+abbrev pub asFloat : Scalar → Ieee.Float
+asFloat (integer k z) = Ieee.ofInt binary64 z
+asFloat (double x) = x
+asFloat (single x) = x
+
+-- "Target 0 then keeps the low 64 bits as a signed number; every other integer target gives 42 outside its range"
+unfoldable pub castInteger : IntKind → ℤ → NumberAnswer
+castInteger k z = pick (eqb (intKindCode k) 1) (Value (Int (wrapping I64 z))) (pick (inRange k z) (Value (asKind k z)) InvalidCast)
+
+-- z is the number made whole, x the number as an f64. "To SFloat: first to f64, then to f32, two roundings"
+abbrev pub castTo : CastTarget → ℤ → Ieee.Float → NumberAnswer
+castTo (ToInteger k) z x = castInteger k z
+castTo ToFloat z x = Value (Float x)
+castTo ToSFloat z x = Value (SFloat (nearestBinary32 x))
+
+-- "From any of the ten kinds except UInt; anything else is 42"
+abbrev pub castable : Scalar → Bool
+castable (integer k z) = not (eqb (intKindCode k) 2)
+castable (double x) = true
+castable (single x) = true
+
+unfoldable pub castOf : CastTarget → Number → NumberAnswer
+castOf t a = pick (castable (scalarOf a)) (castTo t (truncated (scalarOf a)) (asFloat (scalarOf a))) InvalidCast
+
+-- ---- what the code keeps of the whole part q of a float's magnitude: itself below 2^64, its low 64 bits below 2^127
+abbrev pub pickWhole : Bool → WholePart → WholePart → WholePart
+pickWhole true a b = a
+pickWhole false a b = b
+
+unfoldable pub wholePartOf : ℕ → WholePart
+wholePartOf q = pickWhole (ltb q (2 ^ 64)) (Below64 q) (pickWhole (ltb q (2 ^ 127)) (Below127 (q % 2 ^ 64)) Beyond)
