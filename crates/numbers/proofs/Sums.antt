@@ -78,13 +78,11 @@ quotient true true (suc m) (suc n) z = refl
 
 pub quot-zero : (k : IntKind) (a : ℤ) (t : Bool) (n : ℕ) → n ≡ 0 → checkedDiv k a (signed t n) ≡ ZeroDivisor
 unfolding checkedDiv
-quot-zero k a t n e = ap (λ (b : Bool). pick b ZeroDivisor (checked k (quotZ a (signed t n)))) (eq-eqb _ _ (natAbs-signed t n ∙ e))
+quot-zero k a t n e = simp (eq-eqb (natAbs (signed t n)) 0 (natAbs-signed t n ∙ e))
 
 pub quot-is : (k : IntKind) (s t : Bool) (m n : ℕ) → (n ≡ 0 → ⊥) → checkedDiv k (signed s m) (signed t n) ≡ checked k (signed (unlike s t) (m / n))
 unfolding checkedDiv
-quot-is k s t m n z =
-    ap (λ (b : Bool). pick b ZeroDivisor (checked k (quotZ (signed s m) (signed t n)))) (ne-eqb _ _ (λ e. z (sym (natAbs-signed t n) ∙ e)))
-    ∙ ap (checked k) (quotient s t m n z)
+quot-is k s t m n z = simp (ne-eqb (natAbs (signed t n)) 0 (λ e. z (sym (natAbs-signed t n) ∙ e)), quotient s t m n z)
 
 -- ---- a product of two magnitudes is one, or is past every kind
 pub product-fits : (m n : ℕ) → 0 < m → n ≤ (2 ^ 64 - 1) / m → m * n < 2 ^ 64

@@ -45,11 +45,11 @@ loop-less c = search needs
 loop-again : tie.Need-loop-again Inv-loop μ-loop
 loop-again c = search needs
 
-all-requires : tie.Need-all-requires Inv-loop μ-loop
-all-requires c κs = search needs
+report-requires : tie.Need-report-requires Inv-loop μ-loop
+report-requires c κs = search needs
 
-stopped-requires : tie.Need-stopped-requires Inv-loop μ-loop
-stopped-requires c κs = search needs
+report-stopped-requires : tie.Need-report-stopped-requires Inv-loop μ-loop
+report-stopped-requires c κs = search needs
 
 returns : tie.Need-returns Inv-loop μ-loop
 returns c = search needs
@@ -74,7 +74,7 @@ main-spec =
     sub-left
     loop-less
     loop-again
-    all-requires
-    stopped-requires
+    report-requires
+    report-stopped-requires
     returns
     returns-2)

@@ -1,8 +1,8 @@
--- `number_vectors::report::sum` meets its contract: the indices left fall. Assumes nothing.
+-- `number_vectors::sum` meets its contract: the indices left fall. Assumes nothing.
 use borrow.Author.Needs.{needs}
 use Prim.Native.Nat.{_≤_, _-_}
-use Rattle.number_vectors.proofs.report.sum.Statement.{statement}
-use Rattle.number_vectors.proofs.report.sum.Tie as tie
+use Rattle.number_vectors.proofs.sum.Statement.{statement}
+use Rattle.number_vectors.proofs.sum.Tie as tie
 
 abbrev Inv-loop : tie.InvT-loop
 Inv-loop a total₀ i₀ total i = i ≤ 10

@@ -1,8 +1,8 @@
--- `number_vectors::vector::field` meets its contract: what is left of the field falls. Assumes nothing.
+-- `number_vectors::field` meets its contract: what is left of the field falls. Assumes nothing.
 use borrow.Author.Needs.{needs}
 use Prim.Native.Nat.{_≤_, _-_}
-use Rattle.number_vectors.proofs.vector.field.Statement.{statement}
-use Rattle.number_vectors.proofs.vector.field.Tie as tie
+use Rattle.number_vectors.proofs.field.Statement.{statement}
+use Rattle.number_vectors.proofs.field.Tie as tie
 
 abbrev Inv-loop : tie.InvT-loop
 Inv-loop line from to value₀ i₀ value i = i₀ ≤ i

@@ -1,10 +1,10 @@
--- `number_vectors::vector::is_well_formed` meets its contract: the line has 57 bytes. Assumes nothing.
+-- `number_vectors::is_well_formed` meets its contract: the line has 57 bytes. Assumes nothing.
 use borrow.Author.Needs.{needs}
 use mathlib.Core.Path.{_≡_}
 use Prim.Native.Nat.{_≤_, _-_}
 use lib.ListN.{length}
-use Rattle.number_vectors.proofs.vector.is_well_formed.Statement.{statement}
-use Rattle.number_vectors.proofs.vector.is_well_formed.Tie as tie
+use Rattle.number_vectors.proofs.is_well_formed.Statement.{statement}
+use Rattle.number_vectors.proofs.is_well_formed.Tie as tie
 
 abbrev Inv-loop : tie.InvT-loop
 Inv-loop line i₀ i = (i ≤ 56) × (length line ≡ 57)
