@@ -1,0 +1,34 @@
+-- What is proved of the definition, together.
+use Rattle.definition.specs.Trees.{trees}
+use Rattle.definition.specs.Proved.{Proved}
+use Rattle.definition.proofs.Protected.{begins, demand3, passed-protected}
+use Rattle.definition.proofs.Frames.{runs, changes, call-returns, table-right}
+use Rattle.definition.proofs.TableOfSteps.{table-of-steps}
+use Rattle.definition.proofs.OneRun.{one-run, one-reply}
+use Rattle.definition.proofs.Spent.{counts}
+use Rattle.definition.proofs.OneAnswer.{settled, bytes-settled}
+use Rattle.definition.proofs.Equality.{equal-decided}
+use Rattle.definition.proofs.Keeps.{loads-kept}
+use Rattle.definition.proofs.Answers.{examples-right}
+use Rattle.definition.proofs.Witnesses.{witnessed}
+
+pub proved : Proved
+proved = record {
+  demand3 = demand3 trees;
+  passedProtected = passed-protected;
+  begins = begins trees;
+  runs = runs trees;
+  oneRun = one-run trees;
+  oneReply = one-reply trees;
+  counts = counts trees;
+  tableRight = table-right trees;
+  tableOfSteps = table-of-steps trees;
+  changes = changes trees;
+  returns = call-returns trees;
+  settled = settled;
+  bytesSettled = bytes-settled;
+  equalDecided = equal-decided;
+  everyLoadKept = loads-kept;
+  examplesRight = examples-right;
+  witnessed = witnessed;
+}

@@ -1,0 +1,30 @@
+-- The machine of document 01, in reading order. Sentences in quotes are document 01's. Where it leaves a point open, the comment beside the
+-- definition says how it is taken; the reasons are in docs/DECISIONS.md.
+pub mod Image
+pub mod Lines
+pub mod Loaded
+pub mod Value
+pub mod Constants
+pub mod Table
+pub mod Decode
+pub mod Shape
+pub mod Trees
+pub mod Operation
+pub mod Numbers
+pub mod Equality
+pub mod KindTest
+pub mod Arrays
+pub mod Coding
+pub mod State
+pub mod Step
+pub mod Run
+pub mod StackCheck
+pub mod CheckAnswer
+pub mod Callers
+pub mod Claims
+pub mod Answers
+pub mod Runner
+pub mod Simulation
+pub mod Examples
+pub mod Witnesses
+pub mod Proved
