@@ -1,0 +1,166 @@
+// Load: the bytes of an image, judged and decoded into lent work slices (document 01, "Image lines" and "Load").
+mod lines; // digits and lines
+mod records; // what a line says
+mod store; // what a line leaves in the work slices
+
+ghost use mathlib.Core.Path.{_≡_};
+ghost use Prim.Native.Nat.{_≤_, _<_};
+ghost use lib.ListN.{length};
+ghost use Rattle.image.specs.Answer.{slices, Loads};
+ghost use Rattle.image.specs.Turns.{Roomy, Sized, TakesLine, LoadsLines};
+use lines::Read;
+use lines::line_end;
+use lines::read_line;
+use records::Part;
+use records::State;
+use records::record_of;
+use store::Turn;
+use store::accept;
+use store::finish;
+
+// Why an image is refused; specs/Answer.antt, `numberOf`, gives document 01's number of each.
+pub enum Reason {
+    TooLong,
+    BadLine,
+    OutOfOrder,
+    BadField,
+    TooMany,
+    NoEnd,
+    NoSuchChunk,
+    ShortSlice,
+}
+
+// How much of the work slices a loaded image fills: `bytes`, `ends`, `kinds` and `payloads` up to these counts, `table` up to one row
+// of four more than there are chunks.
+pub struct Counts {
+    pub texts: usize,
+    pub chunks: usize,
+    pub constants: usize,
+    pub bytes: usize,
+}
+
+// A refusal comes with the line, from 1; 0 where no line is at fault.
+pub enum LoadAnswer {
+    Loaded(Counts),
+    Refused(Reason, usize),
+}
+
+// Reads the line that begins at `at`, after k lines.
+fn take_line(
+    image: &[u8],
+    bytes: &mut [u8],
+    ends: &mut [usize],
+    kinds: &mut [u8],
+    payloads: &mut [u64],
+    table: &mut [usize],
+    s: State,
+    at: usize,
+    k: usize,
+) -> Turn
+    requires { ⌜ (at < length (now image)) × (length (now image) ≤ 65536) × (k ≤ at) × Roomy (slices (now bytes) (now ends) (now kinds) (now payloads) (now table)) × Sized s at ⌝ }
+    ensures { λ u. ⌜ TakesLine (now (image .entry)) s at k (slices (now (bytes .entry)) (now (ends .entry)) (now (kinds .entry)) (now (payloads .entry)) (now (table .entry))) u (slices (now (bytes .exit)) (now (ends .exit)) (now (kinds .exit)) (now (payloads .exit)) (now (table .exit))) ⌝ }
+{
+    let end = line_end(image, at);
+    if end == image.len() {
+        return Turn::Stop {
+            reason: Reason::BadLine,
+            line: k + 1,
+        };
+    }
+    let from = s.bytes;
+    match read_line(&image[at..end], &mut bytes[from..]) {
+        Read::Faulty => Turn::Stop {
+            reason: Reason::BadLine,
+            line: k + 1,
+        },
+        Read::Line { tag, size } => {
+            let to = from + size;
+            let r = record_of(tag, &bytes[from..to], s);
+            let t = accept(s, r, size, ends, kinds, payloads, table);
+            let next = end + 1;
+            finish(r, t, next, image.len() - next, k + 1)
+        }
+    }
+}
+
+// Reads all lines.
+fn load_lines(
+    image: &[u8],
+    bytes: &mut [u8],
+    ends: &mut [usize],
+    kinds: &mut [u8],
+    payloads: &mut [u64],
+    table: &mut [usize],
+) -> LoadAnswer
+    requires { ⌜ (length (now image) ≤ 65536) × Roomy (slices (now bytes) (now ends) (now kinds) (now payloads) (now table)) ⌝ }
+    ensures { λ r. ⌜ LoadsLines (now (image .entry)) (slices (now (bytes .entry)) (now (ends .entry)) (now (kinds .entry)) (now (payloads .entry)) (now (table .entry))) r (slices (now (bytes .exit)) (now (ends .exit)) (now (kinds .exit)) (now (payloads .exit)) (now (table .exit))) ⌝ }
+{
+    let mut s = State {
+        part: Part::InTexts,
+        texts: 0,
+        chunks: 0,
+        own: 0,
+        code: 0,
+        named: 0,
+        constants: 0,
+        bytes: 0,
+        rows: 0,
+    };
+    let mut at = 0;
+    let mut k = 0;
+    while at < image.len() {
+        match take_line(image, bytes, ends, kinds, payloads, table, s, at, k) {
+            Turn::Next { state, at: next } => {
+                s = state;
+                at = next;
+                k += 1;
+            }
+            Turn::Ready(t) => {
+                return LoadAnswer::Loaded(Counts {
+                    texts: t.texts,
+                    chunks: t.chunks,
+                    constants: t.constants,
+                    bytes: t.bytes,
+                });
+            }
+            Turn::Stop { reason, line } => {
+                return LoadAnswer::Refused(reason, line);
+            }
+        }
+    }
+    LoadAnswer::Refused(Reason::NoEnd, 0)
+}
+
+// Load: the image, judged and decoded into the work slices, or the reason and the line of the refusal. What an image fills of each slice, and
+// what the slices hold besides, is said in specs/Answer.antt; how a caller finds a chunk and a text in them, in specs/Held.antt.
+pub fn load(
+    image: &[u8],
+    bytes: &mut [u8],
+    ends: &mut [usize],
+    kinds: &mut [u8],
+    payloads: &mut [u64],
+    table: &mut [usize],
+) -> LoadAnswer
+    ensures { λ r. ⌜ Loads (now (image .entry)) (slices (now (bytes .entry)) (now (ends .entry)) (now (kinds .entry)) (now (payloads .entry)) (now (table .entry))) r (slices (now (bytes .exit)) (now (ends .exit)) (now (kinds .exit)) (now (payloads .exit)) (now (table .exit))) ⌝ }
+{
+    let small = LoadAnswer::Refused(Reason::ShortSlice, 0);
+    if bytes.len() < 32768 {
+        return small;
+    }
+    if ends.len() < 256 {
+        return small;
+    }
+    if kinds.len() < 13107 {
+        return small;
+    }
+    if payloads.len() < 13107 {
+        return small;
+    }
+    if table.len() < 260 {
+        return small;
+    }
+    if 65536 < image.len() {
+        return LoadAnswer::Refused(Reason::TooLong, 0);
+    }
+    load_lines(image, bytes, ends, kinds, payloads, table)
+}
