@@ -1,0 +1,4 @@
+pub mod Rows
+pub mod Fetches
+pub mod Decoding
+pub mod Judging

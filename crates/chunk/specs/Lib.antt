@@ -1,0 +1,4 @@
+pub mod Table
+pub mod Cursor
+pub mod Decode
+pub mod Fault

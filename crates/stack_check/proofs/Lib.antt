@@ -1,0 +1,6 @@
+pub mod Nodes
+pub mod Found
+pub mod Theory
+pub mod Same
+pub mod Alike
+pub mod Whole

@@ -1,0 +1,144 @@
+-- A node is the definition's instruction. Assumes nothing.
+use mathlib.Core.Path.{_≡_, refl, sym, _∙_, ap, subst}
+use mathlib.Core.Bool.{Bool, true, false}
+use mathlib.Core.List.{List, [], _∷_, map}
+use mathlib.Core.Logic.{_⊎_, inl, inr, ⊎-elim}
+use mathlib.Core.Option.{Option, none, some}
+use Prim.Native.Nat.{ℕ, zero, suc, _+_, _*_, _-_, _≤_, _<_}
+use native.Mathlib.Omega.{arith}
+use borrow.Author.Tests.{le-leb, lt-leb, leb-true}
+use lib.Dec.{leb}
+use lib.ListN.{length, getD, getElem?}
+use Rattle.definition.specs.Image.{Constant, Chunk}
+use Rattle.definition.specs.Table as table
+use Rattle.definition.specs.Decode as definition
+use Rattle.chunk.specs.Table.{rowOf, flowOf, flowNumber, flowAt}
+use Rattle.chunk.specs.Decode.{held, instrOf, decodedAt, Small}
+use Rattle.chunk.specs.Cursor.{pick}
+use Rattle.chunk.specs.Fault.{kindsOf}
+use Rattle.chunk.specs.declared.Flow.{Flow}
+use Rattle.chunk.specs.declared.Flow.the-variants.{Straight, Opens, Closes, Forward, Backward, Forks, Ends, MayEnd}
+use Rattle.chunk.specs.declared.Row.{Row}
+use Rattle.chunk.specs.declared.Instr.{Instr}
+use Rattle.chunk.proofs.Rows as rows
+use Rattle.stack_check.specs.Node.{turnOf, firstOf, secondOf, nodeBy, nodeOf, nodeAt, Taken, NodeIs, ofKind, chunkOf}
+use Rattle.stack_check.specs.declared.Turn.{Turn}
+use Rattle.stack_check.specs.declared.Node.{Node}
+
+pub flow-back : (f : table.Flow) → flowAt (flowNumber f) ≡ flowOf f
+flow-back table.straight = refl
+flow-back table.opens = refl
+flow-back table.closes = refl
+flow-back table.forward = refl
+flow-back table.backward = refl
+flow-back table.forks = refl
+flow-back table.ends = refl
+flow-back table.mayEnd = refl
+
+opens-by : (f : Flow) → turnOf f .opens ≤ 1
+opens-by Straight = omega arith
+opens-by Opens = omega arith
+opens-by Closes = omega arith
+opens-by Forward = omega arith
+opens-by Backward = omega arith
+opens-by Forks = omega arith
+opens-by Ends = omega arith
+opens-by MayEnd = omega arith
+
+pub opens-small : (c : Chunk) (p : ℕ) → nodeAt c p .opens ≤ 1
+unfolding nodeAt
+opens-small c p = from (definition.decode (c .code) p)
+  where
+    from : (x : Option definition.Instr) → nodeOf p x .opens ≤ 1
+    from none = omega arith
+    from (some i) = opens-by (flowOf (table.row (i .op) .flow))
+
+pub leaves-small : (c : Chunk) (p : ℕ) → nodeAt c p .leaves ≤ 1
+unfolding nodeAt
+leaves-small c p = from (definition.decode (c .code) p)
+  where
+    from : (x : Option definition.Instr) → nodeOf p x .leaves ≤ 1
+    from none = omega arith
+    from (some i) = rows.leaves-small (i .op)
+
+-- the operand that the code holds is the definition's where the row counts it or jumps by it
+held-same : (z a : ℕ) → 3 ≤ z → held 3 z a ≡ a
+held-same z a h = simp (le-leb 3 z h)
+
+zero-times : (n k x y : ℕ) → k ≡ 0 → n + k * x ≡ n + k * y
+zero-times n k x y e = rw e (omega arith)
+
+need-same : (o : table.OpCode) (a : ℕ) → table.row o .need + table.row o .per * held 3 (table.size o) a ≡ table.need o a
+need-same o a =
+    ⊎-elim
+    (λ e. zero-times (table.row o .need) (table.row o .per) (held 3 (table.size o) a) a e ∙ sym (rows.need-is o a))
+    (λ h. ap (λ (x : ℕ). table.row o .need + table.row o .per * x) (held-same (table.size o) a h) ∙ sym (rows.need-is o a))
+    (rows.counts-there o)
+
+first-same : (o : table.OpCode) (f : table.Flow) (n a : ℕ) → table.row o .flow ≡ f → firstOf (flowOf f) n (held 3 (table.size o) a) ≡ firstOf (flowOf f) n a
+first-same o table.straight n a e = refl
+first-same o table.opens n a e = refl
+first-same o table.closes n a e = refl
+first-same o table.forward n a e = ap (λ (x : ℕ). n + x) (held-same _ a (rows.forward-there o e))
+first-same o table.backward n a e = ap (λ (x : ℕ). n - x) (held-same _ a (rows.backward-there o e))
+first-same o table.forks n a e = refl
+first-same o table.ends n a e = refl
+first-same o table.mayEnd n a e = refl
+
+second-same : (o : table.OpCode) (f : table.Flow) (n a : ℕ) → table.row o .flow ≡ f → secondOf (flowOf f) n (held 3 (table.size o) a) ≡ secondOf (flowOf f) n a
+second-same o table.straight n a e = refl
+second-same o table.opens n a e = refl
+second-same o table.closes n a e = refl
+second-same o table.forward n a e = ap (λ (x : ℕ). n + x) (held-same _ a (rows.forward-there o e))
+second-same o table.backward n a e = ap (λ (x : ℕ). n - x) (held-same _ a (rows.backward-there o e))
+second-same o table.forks n a e = ap (λ (x : ℕ). n + x) (held-same _ a (rows.forks-there o e))
+second-same o table.ends n a e = refl
+second-same o table.mayEnd n a e = refl
+
+-- the node that the code makes, from what its calls gave
+pub node-is :
+    (i : Instr) (f : Flow) (t : Turn) (x y : ℕ) → f ≡ flowAt (i .row .flow) → t ≡ turnOf f → x ≡ firstOf f (i .next .at) (i .a) → y ≡ secondOf f (i .next .at) (i .a)
+    → NodeIs i (record { need = i .row .need + i .row .per * i .a; leaves = i .row .leaves; exact = t .exact; drops = t .drops; opens = t .opens; ends = t .ends; first = x; second = y })
+node-is i f t x y ef et ex ey p d e =
+    let o = d .op in
+    let g : f ≡ flowOf (table.row o .flow) = ef ∙ ap flowAt (ap (λ (j : Instr). j .row .flow) e) ∙ flow-back (table.row o .flow) in
+    let x₁ : x ≡ firstOf (flowOf (table.row o .flow)) (p + table.size o) (d .a) =
+    ex ∙ rw (g, e) (first-same o (table.row o .flow) (p + table.size o) (d .a) refl) in
+    let y₁ : y ≡ secondOf (flowOf (table.row o .flow)) (p + table.size o) (d .a) =
+    ey ∙ rw (g, e) (second-same o (table.row o .flow) (p + table.size o) (d .a) refl) in
+    let n₁ : i .row .need + i .row .per * i .a ≡ table.need o (d .a) = rw e (need-same o (d .a)) in
+    let l₁ : i .row .leaves ≡ table.leaves o = ap (λ (j : Instr). j .row .leaves) e in
+    let t₁ : t ≡ turnOf (flowOf (table.row o .flow)) = et ∙ ap turnOf g in
+    all n₁ l₁ (ap (λ (u : Turn). u .exact) t₁) (ap (λ (u : Turn). u .drops) t₁) (ap (λ (u : Turn). u .opens) t₁) (ap (λ (u : Turn). u .ends) t₁) x₁ y₁
+  where
+    all :
+        {n l e d o s x y n′ l′ e′ d′ o′ s′ x′ y′ : ℕ} → n ≡ n′ → l ≡ l′ → e ≡ e′ → d ≡ d′ → o ≡ o′ → s ≡ s′ → x ≡ x′ → y ≡ y′
+        → _≡_ {A = Node} (record { need = n; leaves = l; exact = e; drops = d; opens = o; ends = s; first = x; second = y }) (record { need = n′; leaves = l′; exact = e′; drops = d′; opens = o′; ends = s′; first = x′; second = y′ })
+    all a b c f g h k m = rw (a, b, c, f, g, h, k, m)
+
+-- what a row keeps, of the code's
+pub row-small : (i : Instr) (p : ℕ) (d : definition.Instr) → i ≡ instrOf p d → (i .row .need ≤ 3) × (i .row .per ≤ 1) × (i .row .leaves ≤ 1)
+row-small i p d e = rw e (rows.need-small (d .op), rows.per-small (d .op), rows.leaves-small (d .op))
+
+pub kinds-back : (kinds : List ℕ) → kindsOf (map ofKind kinds) ≡ kinds
+kinds-back [] = refl
+kinds-back (k ∷ ks) = ap (λ (l : List ℕ). k ∷ l) (kinds-back ks)
+
+pub before-start : {n a : ℕ} → n < a → 0 ≡ n - a
+before-start h = omega arith
+
+pub fits-in : (n a : ℕ) → n < 9223372036854775808 + 65536 → a < 65536 → n + a ≤ 18446744073709551615
+fits-in n a h l = omega arith
+
+pub turn-is : (r t : Turn) → r .exact ≡ t .exact → r .drops ≡ t .drops → r .opens ≡ t .opens → r .ends ≡ t .ends → r ≡ t
+turn-is r t a b c d = all a b c d
+  where
+    all :
+        {e d o s e′ d′ o′ s′ : ℕ} → e ≡ e′ → d ≡ d′ → o ≡ o′ → s ≡ s′
+        → _≡_ {A = Turn} (record { exact = e; drops = d; opens = o; ends = s }) (record { exact = e′; drops = d′; opens = o′; ends = s′ })
+    all a b c d = rw (a, b, c, d)
+
+pub product-small : (k a : ℕ) → k ≤ 1 → a < 65536 → k * a < 65536
+product-small zero a h l = omega arith
+product-small (suc zero) a h l = omega arith
+product-small (suc (suc k)) a h l = omega arith

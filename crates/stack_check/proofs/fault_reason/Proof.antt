@@ -1,0 +1,34 @@
+use borrow.Author.Needs.{needs}
+use Rattle.stack_check.proofs.fault_reason.Statement.{statement}
+use Rattle.stack_check.proofs.fault_reason.Tie as tie
+use borrow.Author.Tests.{lt-ltb, le-ltb, le-leb, lt-leb, eq-eqb, ne-eqb}
+use native.Mathlib.Omega.{arith}
+use mathlib.Core.Path.{_≡_, refl, _∙_, sym, ap}
+use Prim.Native.Nat.{ℕ, _+_, _*_, _-_, _≤_, _<_}
+use lib.ListN.{length, getD}
+use Rattle.stack_check.specs.Node.{chunkOf}
+use Rattle.stack_check.proofs.Nodes.{kinds-back}
+use Rattle.stack_check.proofs.Found.{fault-number, is-clean}
+
+inspect-requires : tie.Need-inspect-requires
+inspect-requires c κs = search needs
+
+enum-known-f : tie.Need-enum-known-f
+enum-known-f c = search needs
+
+reason-of-requires : tie.Need-reason-of-requires
+reason-of-requires c κs = search needs
+
+enum-told : tie.Need-enum-told
+enum-told c = search needs
+
+returns : tie.Need-returns
+returns c = (c .reason-of .ensures) ∙ fault-number ((c .before .before .before .before .inspect .ensures) (chunkOf (c .before .before .before .before .before .before .before .args .code .now) (c .before .before .before .before .before .before .before .args .kinds .now)) refl (kinds-back (c .before .before .before .before .before .before .before .args .kinds .now))) (c .before .before .f .given .1)
+
+returns-2 : tie.Need-returns-2
+returns-2 c = absurd ((c .before .before .before .before .before .pre) (is-clean ((c .before .before .inspect .ensures) (chunkOf (c .before .before .before .before .before .args .code .now) (c .before .before .before .before .before .args .kinds .now)) refl (kinds-back (c .before .before .before .before .before .args .kinds .now))) (c .enum-told .given .1)))
+
+pub fault-reason-spec : {M : Type 1} → statement M
+fault-reason-spec =
+    tie.close
+    (tie.spec inspect-requires enum-known-f reason-of-requires enum-told returns returns-2)

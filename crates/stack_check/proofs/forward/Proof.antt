@@ -1,0 +1,18 @@
+use borrow.Author.Needs.{needs}
+use Rattle.stack_check.proofs.forward.Statement.{statement}
+use Rattle.stack_check.proofs.forward.Tie as tie
+use borrow.Author.Tests.{lt-ltb, le-ltb, le-leb, lt-leb, eq-eqb, ne-eqb}
+use native.Mathlib.Omega.{arith}
+use mathlib.Core.Path.{_≡_, refl, _∙_, sym, ap}
+use Prim.Native.Nat.{ℕ, _+_, _*_, _-_, _≤_, _<_}
+use lib.ListN.{length, getD}
+use Rattle.stack_check.proofs.Nodes.{fits-in}
+
+jump-forward-requires : tie.Need-jump-forward-requires
+jump-forward-requires c κs = search needs
+
+returns : tie.Need-returns
+returns c = (c .jump-forward .ensures) ∙ simp (le-leb _ _ (fits-in _ _ (c .before .pre .0) (c .before .pre .1)))
+
+pub forward-spec : {M : Type 1} → statement M
+forward-spec = tie.close (tie.spec jump-forward-requires returns)

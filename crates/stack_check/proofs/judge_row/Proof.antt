@@ -1,0 +1,111 @@
+use Rattle.stack_check.proofs.judge_row.Statement.{statement}
+use Rattle.stack_check.proofs.judge_row.Tie as tie
+use borrow.Author.Tests.{lt-ltb, le-ltb, le-leb, lt-leb, eq-eqb, ne-eqb}
+use native.Mathlib.Omega.{arith}
+use mathlib.Core.Path.{_≡_, refl, _∙_, sym, ap}
+use Prim.Native.Nat.{ℕ, _+_, _*_, _-_, _≤_, _<_}
+use lib.ListN.{length, getD}
+use borrow.Author.Needs.{needs}
+use Rattle.stack_check.proofs.Whole.{roomy-cut, answer-for}
+use Rattle.stack_check.specs.Answer.{cut}
+
+mul-row : tie.Need-mul-row
+mul-row c = let h = (c .before .before .before .before .before .before .pre .1 .row-within) in search needs
+
+add-from : tie.Need-add-from
+add-from c = let h = (c .before .before .before .before .before .before .pre .1 .row-within) in search needs
+
+mul-from : tie.Need-mul-from
+mul-from c = let h = (c .before .before .before .before .before .before .pre .1 .row-within) in search needs
+
+shared-slice-read-from : tie.Need-shared-slice-read-from
+shared-slice-read-from c = omega (arith, (c .before .before .before .before .before .before .before .pre .1 .row-within))
+
+add-to : tie.Need-add-to
+add-to c = let h = (c .before .before .before .before .before .before .before .pre .1 .row-within) in search needs
+
+mul-to : tie.Need-mul-to
+mul-to c = let h = (c .before .before .before .before .before .before .before .pre .1 .row-within) in search needs
+
+shared-slice-read-to : tie.Need-shared-slice-read-to
+shared-slice-read-to c = omega (arith, (c .before .before .before .before .before .before .before .before .pre .1 .row-within))
+
+add-kinds-from : tie.Need-add-kinds-from
+add-kinds-from c = let h = (c .before .before .before .before .before .before .before .before .pre .1 .row-within) in search needs
+
+mul-kinds-from : tie.Need-mul-kinds-from
+mul-kinds-from c = let h = (c .before .before .before .before .before .before .before .before .pre .1 .row-within) in search needs
+
+shared-slice-read-kinds-from : tie.Need-shared-slice-read-kinds-from
+shared-slice-read-kinds-from c = omega (arith, (c .before .before .before .before .before .before .before .before .before .pre .1 .row-within))
+
+add-kinds-to : tie.Need-add-kinds-to
+add-kinds-to c = let h = (c .before .before .before .before .before .before .before .before .before .pre .1 .row-within) in search needs
+
+mul-kinds-to : tie.Need-mul-kinds-to
+mul-kinds-to c = let h = (c .before .before .before .before .before .before .before .before .before .pre .1 .row-within) in search needs
+
+shared-slice-read-kinds-to : tie.Need-shared-slice-read-kinds-to
+shared-slice-read-kinds-to c = omega (arith, (c .before .before .before .before .before .before .before .before .before .before .pre .1 .row-within))
+
+sub-judge : tie.Need-sub-judge
+sub-judge c = (c .before .before .before .before .before .before .before .before .before .before .pre .1 .code-rises)
+
+part-judge-start : tie.Need-part-judge-start
+part-judge-start c = (c .before .before .before .before .before .before .before .before .before .before .pre .1 .code-rises)
+
+part-judge-end : tie.Need-part-judge-end
+part-judge-end c = (c .before .before .before .before .before .before .before .before .before .before .pre .1 .code-within)
+
+sub-judge-2 : tie.Need-sub-judge-2
+sub-judge-2 c = (c .before .before .before .before .before .before .before .before .before .before .before .pre .1 .constants-rise)
+
+part-judge-start-2 : tie.Need-part-judge-start-2
+part-judge-start-2 c = (c .before .before .before .before .before .before .before .before .before .before .before .pre .1 .constants-rise)
+
+part-judge-end-2 : tie.Need-part-judge-end-2
+part-judge-end-2 c = (c .before .before .before .before .before .before .before .before .before .before .before .pre .1 .kinds-within)
+
+judge-requires : tie.Need-judge-requires
+judge-requires c κs = roomy-cut (c .before .before .before .before .before .before .before .before .before .before .before .before .before .before .before .pre .0) (c .before .before .before .before .before .before .before .before .before .before .before .before .before .before .before .pre .1 .code-is) (c .before .before .before .before .before .before .before .before .before .before .before .before .before .before .before .pre .2)
+
+same-length : tie.Need-same-length
+same-length c = search needs
+
+same-length-2 : tie.Need-same-length-2
+same-length-2 c = search needs
+
+same-length-3 : tie.Need-same-length-3
+same-length-3 c = search needs
+
+returns : tie.Need-returns
+returns c = λ k H. answer-for k (cut (getD (c .before .before .before .before .before .before .before .before .before .before .before .before .before .before .before .before .before .before .before .before .before .before .args .table .now) (4 * (c .before .before .before .before .before .before .before .before .before .before .before .before .before .before .before .before .before .before .before .before .before .before .args .c) + 3) 0) (getD (c .before .before .before .before .before .before .before .before .before .before .before .before .before .before .before .before .before .before .before .before .before .before .args .table .now) (4 * (c .before .before .before .before .before .before .before .before .before .before .before .before .before .before .before .before .before .before .before .before .before .before .args .c) + 7) 0) (c .before .before .before .before .before .before .before .before .before .before .before .before .before .before .before .before .before .before .before .before .before .before .args .bytes .now)) (cut (getD (c .before .before .before .before .before .before .before .before .before .before .before .before .before .before .before .before .before .before .before .before .before .before .args .table .now) (4 * (c .before .before .before .before .before .before .before .before .before .before .before .before .before .before .before .before .before .before .before .before .before .before .args .c) + 2) 0) (getD (c .before .before .before .before .before .before .before .before .before .before .before .before .before .before .before .before .before .before .before .before .before .before .args .table .now) (4 * (c .before .before .before .before .before .before .before .before .before .before .before .before .before .before .before .before .before .before .before .before .before .before .args .c) + 6) 0) (c .before .before .before .before .before .before .before .before .before .before .before .before .before .before .before .before .before .before .before .before .before .before .args .kinds .now)) (c .before .before .before .before .before .before .judge .result) (H .code-is) (H .kinds-are) (c .before .before .before .before .before .before .judge .ensures)
+
+pub judge-row-spec : {M : Type 1} → statement M
+judge-row-spec =
+    tie.close
+    (tie.spec
+    mul-row
+    add-from
+    mul-from
+    shared-slice-read-from
+    add-to
+    mul-to
+    shared-slice-read-to
+    add-kinds-from
+    mul-kinds-from
+    shared-slice-read-kinds-from
+    add-kinds-to
+    mul-kinds-to
+    shared-slice-read-kinds-to
+    sub-judge
+    part-judge-start
+    part-judge-end
+    sub-judge-2
+    part-judge-start-2
+    part-judge-end-2
+    judge-requires
+    same-length
+    same-length-2
+    same-length-3
+    returns)

@@ -1,0 +1,28 @@
+use borrow.Author.Needs.{needs}
+use Rattle.stack_check.proofs.meets.Statement.{statement}
+use Rattle.stack_check.proofs.meets.Tie as tie
+use borrow.Author.Tests.{lt-ltb, le-ltb, le-leb, lt-leb, eq-eqb, ne-eqb}
+use native.Mathlib.Omega.{arith}
+use mathlib.Core.Path.{refl, _∙_, sym, ap}
+use mathlib.Core.Path.{_≡_, subst}
+use Prim.Native.Nat.{ℕ, _+_, _-_, _≤_, _<_}
+use lib.ListN.{length, getD, set, length-set}
+use Rattle.stack_check.specs.Progress.{Progress, Coming, Visited, Spread, Handling}
+
+returns : tie.Need-returns
+returns c = search needs
+
+returns-2 : tie.Need-returns-2
+returns-2 c = search needs
+
+returns-3 : tie.Need-returns-3
+returns-3 c = search needs
+
+returns-4 : tie.Need-returns-4
+returns-4 c = search needs
+
+returns-5 : tie.Need-returns-5
+returns-5 c = record { yes = λ n. absurd (n refl); not = λ e f. (c .if4 .left) (f .exactly (c .before .before .if3 .left)) }
+
+pub meets-spec : {M : Type 1} → statement M
+meets-spec = tie.close (tie.spec returns returns-2 returns-3 returns-4 returns-5)

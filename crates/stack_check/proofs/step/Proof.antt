@@ -1,0 +1,77 @@
+use borrow.Author.Needs.{needs}
+use Rattle.stack_check.proofs.step.Statement.{statement}
+use Rattle.stack_check.proofs.step.Tie as tie
+use borrow.Author.Tests.{lt-ltb, le-ltb, le-leb, lt-leb, eq-eqb, ne-eqb}
+use native.Mathlib.Omega.{arith}
+use mathlib.Core.Path.{_≡_, refl, _∙_, sym, ap}
+use Prim.Native.Nat.{ℕ, _+_, _*_, _-_, _≤_, _<_}
+use lib.ListN.{length, getD}
+use Rattle.stack_check.proofs.Nodes.{kinds-back}
+use Rattle.stack_check.proofs.Found.{drawn, node-here, is-faulty, is-clean, is-here}
+use Rattle.stack_check.specs.Node.{chunkOf}
+use Rattle.stack_check.proofs.Theory.{progress-broken, unfit-wrong, coming-wrong, coming-right, height-small, depth-small, tail-small, handling-right, handling-wrong, step-lower, step-higher, step-handled}
+
+mul-at : tie.Need-mul-at
+mul-at c = search needs
+
+slice-read-at : tie.Need-slice-read-at
+slice-read-at c = search needs
+
+inspect-requires : tie.Need-inspect-requires
+inspect-requires c κs = search needs
+
+enum-told : tie.Need-enum-told
+enum-told c = search needs
+
+add-t18 : tie.Need-add-t18
+add-t18 c = search needs
+
+returns : tie.Need-returns
+returns c = (step-lower (c .before .before .before .before .before .before .before .before .before .before .pre .0) (c .before .before .before .before .before .before .before .before .before .before .pre .1) _ refl (is-faulty ((c .before .before .before .inspect .ensures) (chunkOf (c .before .before .before .before .before .before .before .before .before .before .args .code .now) (c .before .before .before .before .before .before .before .before .before .before .args .kinds .now)) refl (kinds-back (c .before .before .before .before .before .before .before .before .before .before .args .kinds .now))) (c .before .enum-told .given .1)) (c .if1 .taken), refl)
+
+add-t19 : tie.Need-add-t19
+add-t19 c = search needs
+
+returns-2 : tie.Need-returns-2
+returns-2 c = (step-higher (c .before .before .before .before .before .before .before .before .before .before .pre .0) (c .before .before .before .before .before .before .before .before .before .before .pre .1) _ refl (is-faulty ((c .before .before .before .inspect .ensures) (chunkOf (c .before .before .before .before .before .before .before .before .before .before .args .code .now) (c .before .before .before .before .before .before .before .before .before .before .args .kinds .now)) refl (kinds-back (c .before .before .before .before .before .before .before .before .before .before .args .kinds .now))) (c .before .enum-told .given .1)) (c .if1 .left), refl)
+
+enum-known-i : tie.Need-enum-known-i
+enum-known-i c = search needs
+
+handle-requires : tie.Need-handle-requires
+handle-requires c κs = ((c .before .before .before .before .before .before .before .before .before .before .before .before .before .pre .0), (c .before .before .before .before .before .before .before .before .before .before .before .before .before .pre .0) .listed _ (c .before .before .before .before .before .before .before .before .before .before .before .before .before .pre .1), is-clean ((c .before .before .before .before .before .before .inspect .ensures) (chunkOf (c .before .before .before .before .before .before .before .before .before .before .before .before .before .args .code .now) (c .before .before .before .before .before .before .before .before .before .before .before .before .before .args .kinds .now)) refl (kinds-back (c .before .before .before .before .before .before .before .before .before .before .before .before .before .args .kinds .now))) (c .before .before .before .before .i .given .1), is-here ((c .before .before .before .before .before .before .inspect .ensures) (chunkOf (c .before .before .before .before .before .before .before .before .before .before .before .before .before .args .code .now) (c .before .before .before .before .before .before .before .before .before .before .before .before .before .args .kinds .now)) refl (kinds-back (c .before .before .before .before .before .before .before .before .before .before .before .before .before .args .kinds .now))) (c .before .before .before .before .i .given .1))
+
+add-t26 : tie.Need-add-t26
+add-t26 c = omega (arith, (c .before .before .before .before .before .before .before .before .before .before .before .before .before .before .before .before .before .before .before .before .pre .0) .room, (c .before .before .before .before .before .before .before .before .before .before .before .before .before .before .before .before .before .before .before .before .pre .0) .order, (c .before .before .before .before .before .before .before .before .before .before .before .before .before .before .before .before .before .before .before .before .pre .1), (c .before .before .before .before .before .before .before .before .before .before .before .before .before .before .before .before .before .before .before .before .good))
+
+same-length : tie.Need-same-length
+same-length c = search needs
+
+same-length-2 : tie.Need-same-length-2
+same-length-2 c = search needs
+
+same-length-3 : tie.Need-same-length-3
+same-length-3 c = search needs
+
+returns-3 : tie.Need-returns-3
+returns-3 c = (step-handled (c .before .before .before .before .before .before .before .before .before .before .before .before .before .before .before .before .before .before .before .before .pre .1) (is-clean ((c .before .before .before .before .before .before .before .before .before .before .before .before .before .inspect .ensures) (chunkOf (c .before .before .before .before .before .before .before .before .before .before .before .before .before .before .before .before .before .before .before .before .args .code .now) (c .before .before .before .before .before .before .before .before .before .before .before .before .before .before .before .before .before .before .before .before .args .kinds .now)) refl (kinds-back (c .before .before .before .before .before .before .before .before .before .before .before .before .before .before .before .before .before .before .before .before .args .kinds .now))) (c .before .before .before .before .before .before .before .before .before .before .before .i .given .1)) (c .before .before .before .before .before .before .handle .ensures), refl)
+
+pub step-spec : {M : Type 1} → statement M
+step-spec =
+    tie.close
+    (tie.spec
+    mul-at
+    slice-read-at
+    inspect-requires
+    enum-told
+    add-t18
+    returns
+    add-t19
+    returns-2
+    enum-known-i
+    handle-requires
+    add-t26
+    same-length
+    same-length-2
+    same-length-3
+    returns-3)

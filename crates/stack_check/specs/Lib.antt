@@ -1,0 +1,4 @@
+pub mod Node
+pub mod Flat
+pub mod Progress
+pub mod Answer

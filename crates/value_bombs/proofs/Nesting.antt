@@ -1,0 +1,167 @@
+-- Values nested one array at a time.
+use mathlib.Core.Path.{_≡_, refl, ap, sym, _∙_, subst}
+use mathlib.Core.Logic.{_↔_, _⊎_, ⊎-elim}
+use mathlib.Core.Bool.{Bool, true, false, cond}
+use mathlib.Core.List.{List, [], _∷_, _++_, map}
+use Prim.Native.Nat.{ℕ, zero, suc, _+_, _*_, _<_, _≤_}
+use native.Mathlib.Numerals.{add-one}
+use native.Mathlib.Omega.{arith}
+use native.Mathlib.Nat.{eq-or-lt-of-le}
+use lib.Seq.{getD-set-same, getD-set-other}
+use lib.Dec.{leb, ltb}
+use lib.ListN.{length, getD, take, drop, set, replicate}
+use Rattle.numbers.specs.declared.Number.{Number}
+use Rattle.definition.specs.Image.{Image, chunkAt, textAt}
+use Rattle.definition.specs.Value.{Value, Values, node, none, more, values, num, arr, nest, nestOver, nests, nestEmpty}
+use Rattle.definition.specs.Trees.{trees}
+use Rattle.definition.specs.Equality.{Equal, equal}
+use Rattle.definition.specs.Coding.{coded}
+use Rattle.definition.proofs.Equality.{equal-decided}
+use Rattle.values.specs.declared.VmValue.{VmValue}
+use Rattle.values.specs.declared.VmValue.the-variants.{Null, Num}
+use Rattle.values.specs.declared.Built.{Built}
+use Rattle.values.specs.declared.Built.the-variants as built
+use Rattle.values.specs.declared.Coded.{Coded}
+use Rattle.values.specs.declared.Coded.the-variants.{TooLong}
+use Rattle.values.specs.Words.{pairs, valueAt, Fit}
+use Rattle.values.specs.Cells.{treeOver, cellsOf, treesOf, treeOf, Placed, WellFormed, Held}
+use Rattle.values.specs.Building.{Builds, BuiltOn, Kept, RoomKept, FitBuilt}
+use Rattle.values.specs.Classes.{classOf, ClassTables}
+use Rattle.values.specs.Equality.{Memo, Down, EqualAsks, EqualGives}
+use Rattle.values.specs.Coding.{codeOf, codedAnswer, codedOut, CodeGives}
+use Rattle.values.proofs.Equals.{cells-length}
+use Rattle.values.proofs.Memos.{memo-none, down-none}
+use Rattle.values.proofs.FlatTrees.{none-formed}
+use Rattle.value_bombs.specs.Nested.{nestedTree, noImage, NestedAsks, Stays, NestedAt, CodedGives, done, not-built}
+
+-- two values stored in a slice of four zeros
+pub pair-is : (p q : List ℕ) (x : VmValue) → pairs p ≡ set (pairs (0 ∷ 0 ∷ 0 ∷ 0 ∷ [])) 0 x → pairs q ≡ set (pairs p) 1 x → take 2 (drop 0 (pairs q)) ≡ x ∷ x ∷ []
+unfolding pairs
+pair-is p q x ep eq = ap (λ (l : List VmValue). take 2 l) (eq ∙ ap (λ (l : List VmValue). set l 1 x) ep)
+
+pub doubled : (p q : List ℕ) (x : VmValue) (n : ℕ) (ws ws′ : List ℕ) (r : Built) → pairs p ≡ set (pairs (0 ∷ 0 ∷ 0 ∷ 0 ∷ [])) 0 x → pairs q ≡ set (pairs p) 1 x
+    → Builds arr (take 2 (drop 0 (pairs q))) n ws ws′ r → Builds arr (x ∷ x ∷ []) n ws ws′ r
+doubled p q x n ws ws′ r ep eq b = subst (λ (l : List VmValue). Builds arr l n ws ws′ r) (pair-is p q x ep eq) b
+
+-- ---- the turns of the loop
+pub leaf-at : (leaf : Number) (n : ℕ) (ws : List ℕ) → NestedAsks ws n → NestedAt leaf 0 n ws ws (Num leaf) n
+unfolding treeOver nest nestOver nestedTree
+leaf-at leaf n ws a =
+    record {
+      asks = a;
+      placed = record { below = omega arith; nests = refl };
+      tree = refl;
+      fit = tt;
+      older = λ u p. record { placed = p; tree = refl };
+    }
+
+pub first-at : (leaf l : Number) (n : ℕ) (ws : List ℕ) → NestedAsks ws n → Num leaf ≡ Num l → NestedAt l 0 n ws ws (Num leaf) n
+first-at leaf l n ws a e = let q : leaf ≡ l = cc in subst (λ (k : Number). NestedAt k 0 n ws ws (Num leaf) n) q (leaf-at leaf n ws a)
+
+module _ (leaf : Number) (i n₀ n : ℕ) (ws₀ ws ws′ : List ℕ) (x v : VmValue) (a : NestedAt leaf i n₀ ws₀ ws x n) (len : length ws′ ≡ length ws)
+    (b : Builds arr (x ∷ x ∷ []) n ws ws′ (built.Value v)) where
+  both-placed : (j : ℕ) → j < 2 → Placed (cellsOf n ws) n (getD (x ∷ x ∷ []) j Null)
+  both-placed zero l = a .placed
+  both-placed (suc zero) l = a .placed
+  both-placed (suc (suc j)) l = let z : ⊥ = omega arith in absurd z
+
+  made : BuiltOn (cellsOf n ws) (cellsOf (n + 2) ws′) arr (x ∷ x ∷ []) v
+  made = b .kept (a .asks .formed) both-placed
+
+  few : n + 2 ≤ 4096
+  few = b .room
+
+  now-length : length (cellsOf (n + 2) ws′) ≡ n + 2
+  now-length = cells-length (n + 2) ws′ (omega (arith, few, a .asks .words))
+
+  then-length : length (cellsOf n ws) ≡ n
+  then-length = cells-length n ws (omega (arith, a .asks .few, a .asks .words))
+
+  pub next-at : NestedAt leaf (i + 1) n₀ ws₀ ws′ v (n + 2)
+  unfolding nestedTree
+  next-at =
+      subst (λ (d : ℕ). NestedAt leaf d n₀ ws₀ ws′ v (n + 2)) (sym (add-one i))
+      (record {
+        asks = record { words = omega (arith, a .asks .words); few = few; formed = made .formed };
+        placed = subst (λ (k : ℕ). Placed (cellsOf (n + 2) ws′) k v) now-length (made .placed);
+        tree = made .tree ∙ ap (λ (t : Value). node arr (more t (more t none))) (a .tree);
+        fit = b .fit;
+        older = λ u p.
+            let s = a .older u p in
+            let o = made .older u (subst (λ (k : ℕ). Placed (cellsOf n ws) k u) (sym then-length) (s .placed)) in
+            record {
+              placed = record { below = omega (arith, s .placed .below); nests = s .placed .nests ∙ ap nest (sym o) };
+              tree = o ∙ s .tree;
+            };
+      })
+
+-- ---- comparing and coding
+none-there : (a : ℕ) → classOf (0 ∷ []) a ≡ 0
+unfolding classOf
+none-there zero = refl
+none-there (suc a) = either (ltb (suc a) 1)
+  where
+    either : (b : Bool) → _≡_ {A = ℕ} (cond b 0 0) 0
+    either true = refl
+    either false = refl
+
+no-tables : ClassTables noImage (0 ∷ []) (0 ∷ [])
+unfolding textAt chunkAt
+no-tables =
+    record {
+      texts = λ a b. ((λ e. refl), (λ e. none-there a ∙ sym (none-there b)));
+      chunks = λ a b. ((λ e. (refl, refl)), (λ e. none-there a ∙ sym (none-there b)));
+    }
+
+zeros : (n i : ℕ) → _≡_ {A = ℕ} (getD (replicate {A = ℕ} n 0) i 0) 0
+zeros zero i = refl
+zeros (suc n) zero = refl
+zeros (suc n) (suc i) = zeros n i
+
+pub empty-asks : (ws : List ℕ) → 8192 ≤ length ws → NestedAsks ws 0
+empty-asks ws h = record { words = h; few = omega arith; formed = none-formed }
+
+pub equal-asks : (left right : Number) (depth n m : ℕ) (ws₀ ws₁ ws : List ℕ) (memo : List ℕ) (a b : VmValue) → memo ≡ replicate {A = ℕ} (length memo) 0 → 4096 ≤ length memo
+    → NestedAt left depth 0 ws₀ ws₁ a n → NestedAt right depth n ws₁ ws b m → EqualAsks (0 ∷ []) (0 ∷ []) ws m memo a b
+equal-asks left right depth n m ws₀ ws₁ ws memo a b z l x y =
+    let none : (i : ℕ) → getD memo i 0 ≡ 0 = λ i. ap (λ (w : List ℕ). getD w i 0) z ∙ zeros (length memo) i in
+    record {
+      room = omega (arith, y .asks .few, y .asks .words);
+      formed = y .asks .formed;
+      left = y .older a (x .placed) .placed;
+      right = y .placed;
+      memo = omega (arith, y .asks .few);
+      down = down-none memo none;
+      told = λ im ct. memo-none im (treesOf (cellsOf m ws)) memo none;
+    }
+
+pub equal-gives : (left right : Number) (depth n m : ℕ) (ws₀ ws₁ ws : List ℕ) (memo : List ℕ) (a b : VmValue) (r : Bool)
+    → NestedAt left depth 0 ws₀ ws₁ a n → NestedAt right depth n ws₁ ws b m → EqualGives (0 ∷ []) (0 ∷ []) ws m memo a b r
+    → (r ≡ true) ↔ Equal noImage (nestedTree left depth) (nestedTree right depth)
+equal-gives left right depth n m ws₀ ws₁ ws memo a b r x y g =
+    let ta : treeOf (cellsOf m ws) a ≡ nestedTree left depth = y .older a (x .placed) .tree ∙ x .tree in
+    let e : r ≡ equal trees noImage m (nestedTree left depth) (nestedTree right depth) =
+    g .trees noImage no-tables ∙ ap (λ (t : Value). equal trees noImage m t (treeOf (cellsOf m ws) b)) ta ∙ ap (λ (t : Value). equal trees noImage m (nestedTree left depth) t) (y .tree)
+    in
+    ((λ q. equal-decided noImage m _ _ .0 (sym e ∙ q)), (λ q. e ∙ equal-decided noImage m _ _ .1 q))
+
+pub code-asks : (leaf : Number) (depth n : ℕ) (ws₀ ws : List ℕ) (v : VmValue) → NestedAt leaf depth 0 ws₀ ws v n → Held ws n v
+code-asks leaf depth n ws₀ ws v x = record { room = omega (arith, x .asks .few, x .asks .words); formed = x .asks .formed; placed = x .placed }
+
+pub code-gives : (leaf : Number) (depth n : ℕ) (ws₀ ws : List ℕ) (v : VmValue) (l l′ : List ℕ) (r : Coded) → NestedAt leaf depth 0 ws₀ ws v n → CodeGives ws n v l l′ r → CodedGives leaf depth l l′ r
+code-gives leaf depth n ws₀ ws v l l′ r x g =
+    let e : codeOf ws n v ≡ coded trees n (nestedTree leaf depth) = ap (coded trees n) (x .tree) in
+    done n (g .answer ∙ ap (λ (bs : List ℕ). codedAnswer (leb (length bs) (length l)) bs) e) (g .out ∙ ap (λ (bs : List ℕ). codedOut (leb (length bs) (length l)) bs l) e)
+
+-- ---- clearing
+pub cleared : (m : List ℕ) (i : ℕ) → i < length m → ((j : ℕ) → j < i → getD m j 0 ≡ 0) → (j : ℕ) → j < i + 1 → getD (set m i 0) j 0 ≡ 0
+cleared m i l h j k =
+    ⊎-elim (λ (e : j ≡ i). ap (λ (n : ℕ). getD (set m i 0) n 0) e ∙ getD-set-same m i 0 0 l)
+    (λ (q : j < i). getD-set-other m i j 0 0 (λ e. let z : ⊥ = omega arith in absurd z) ∙ h j q)
+    (eq-or-lt-of-le (omega arith))
+
+pub cleared-all : (m : List ℕ) (n : ℕ) → length m ≡ n → ((j : ℕ) → j < n → getD m j 0 ≡ 0) → m ≡ replicate {A = ℕ} n 0
+cleared-all [] zero e h = refl
+cleared-all [] (suc n) e h = let z : ⊥ = omega arith in absurd z
+cleared-all (x ∷ xs) zero e h = let z : ⊥ = omega arith in absurd z
+cleared-all (x ∷ xs) (suc n) e h = ap (λ (y : ℕ). y ∷ xs) (h 0 (omega arith)) ∙ ap (λ (l : List ℕ). 0 ∷ l) (cleared-all xs n (omega arith) (λ j l. h (suc j) (omega arith)))

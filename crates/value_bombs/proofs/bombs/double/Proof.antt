@@ -1,0 +1,47 @@
+use mathlib.Core.Path.{_≡_, refl, sym, ap, _∙_, subst}
+use native.Mathlib.Omega.{arith}
+use Rattle.value_bombs.proofs.Nesting.{doubled}
+use borrow.Author.Needs.{needs}
+use Rattle.value_bombs.proofs.bombs.double.Statement.{statement}
+use Rattle.value_bombs.proofs.bombs.double.Tie as tie
+use Rattle.value_bombs.proofs.bombs.double.Reads as reads
+use Rattle.value_bombs.proofs.bombs.double.Lts as lts
+use Rattle.values.proofs.build_arr.Reads as build-arr-reads
+use Rattle.values.proofs.store_value.Reads as store-value-reads
+
+slice-aggregate-store-value : tie.Need-slice-aggregate-store-value
+slice-aggregate-store-value c = search needs
+
+store-value-requires : tie.Need-store-value-requires
+store-value-requires c κs = search needs
+
+slice-aggregate-store-value-2 : tie.Need-slice-aggregate-store-value-2
+slice-aggregate-store-value-2 c = search needs
+
+store-value-requires-2 : tie.Need-store-value-requires-2
+store-value-requires-2 c κs = search needs
+
+slice-aggregate-build-arr : tie.Need-slice-aggregate-build-arr
+slice-aggregate-build-arr c = search needs
+
+build-arr-requires : tie.Need-build-arr-requires
+build-arr-requires c κs = search needs
+
+same-length : tie.Need-same-length
+same-length c = search needs
+
+returns : tie.Need-returns
+returns c = doubled _ _ (c .before .before .before .before .before .before .before .before .before .before .before .before .args .x) (c .before .before .before .before .before .before .before .before .before .before .before .before .args .nc) (c .before .before .before .before .before .before .before .before .before .before .before .before .args .cells .now) _ (c .before .before .build-arr .result) (c .before .before .before .before .before .before .before .before .before .store-value .ensures) (c .before .before .before .before .before .before .store-value2 .ensures) (c .before .before .build-arr .ensures)
+
+pub double-spec : {M : Type 1} → statement M
+double-spec =
+    tie.close
+    (tie.spec
+    slice-aggregate-store-value
+    store-value-requires
+    slice-aggregate-store-value-2
+    store-value-requires-2
+    slice-aggregate-build-arr
+    build-arr-requires
+    same-length
+    returns)
