@@ -6,9 +6,9 @@ use native.Mathlib.Nat.{not-suc-le-zero}
 use native.Mathlib.Omega.{arith}
 use lib.ListN.{length, getD, take, drop, length-append}
 use lib.Seq.{drop-at, take-at, drop-cons}
-use Rattle.definition.specs.Image.{Constant, Chunk, noChunk, Image}
+use Rattle.definition.specs.Image.{Constant, Chunk, noChunk}
 use Rattle.definition.specs.Lines.{constantsOf}
-use Rattle.image.specs.Answer.{flat, codeIn, endsFrom, rowsFrom, kindOf, payloadOf}
+use Rattle.image.specs.Answer.{flat, codeIn, endsFrom, rowsFrom}
 use Rattle.image.specs.Held.{cut}
 
 abbrev pub at : List Chunk → ℕ → Chunk

@@ -1,19 +1,18 @@
 -- Laws on the lines of an image, on their digits, and on numbers of several bytes.
-use mathlib.Core.Path.{_≡_, refl, sym, ap, _∙_, subst}
+use mathlib.Core.Path.{_≡_, refl, ap, _∙_}
 use mathlib.Core.Bool.{Bool, true, false, cond, _&&_}
 use mathlib.Core.List.{List, [], _∷_, _++_, append-assoc, append-nil}
 use mathlib.Core.Option.{Option, none, some}
-use mathlib.Core.Logic.{_⊎_, ⊎-elim}
 use Prim.Native.Nat.{ℕ, zero, suc, _+_, _*_, _-_, _^_, _≤_, _<_}
 use native.Mathlib.Numerals.{add-one}
-use native.Mathlib.Nat.{not-suc-le-zero, pow-suc, pow-le-pow-right}
+use native.Mathlib.Nat.{pow-suc, pow-le-pow-right}
 use native.Mathlib.Omega.{arith}
-use borrow.Author.Tests.{lt-ltb, le-ltb, le-leb, lt-leb, leb-true, eq-eqb, ne-eqb}
+use borrow.Author.Tests.{lt-ltb, le-leb, lt-leb, leb-true, ne-eqb}
 use lib.Dec.{ltb, leb}
-use lib.ListN.{length, getD, take, drop, set, length-drop, length-take, length-set, drop-of-length-le}
+use lib.ListN.{length, getD, take, drop, set, length-drop, length-take, drop-of-length-le}
 use lib.Seq.{drop-cons, take-suc-set, split-at, getD-drop, getD-take, drop-drop}
 use Rattle.definition.proofs.Judged.{first, second}
-use Rattle.definition.specs.Lines.{widths, Split, split, inFront, digit, withByte, bytesOf, Line, line, faulty, lineOf, numberFrom, printable}
+use Rattle.definition.specs.Lines.{widths, split, digit, withByte, bytesOf, line, faulty, lineOf, numberFrom, printable}
 
 -- digits
 abbrev pub prepend : List ℕ → Option (List ℕ) → Option (List ℕ)

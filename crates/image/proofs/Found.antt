@@ -3,16 +3,16 @@ use mathlib.Core.Path.{_≡_, refl, sym, ap, _∙_}
 use mathlib.Core.Bool.{Bool, true, false, cond}
 use mathlib.Core.Logic.{_⊎_, inl, inr}
 use mathlib.Core.List.{List, [], _∷_, _++_, map}
-use Prim.Native.Nat.{ℕ, zero, suc, _+_, _*_, _-_, _≤_, _<_, min}
+use Prim.Native.Nat.{ℕ, zero, suc, _+_, _*_, _-_, _≤_, _<_}
 use native.Mathlib.Nat.{not-suc-le-zero}
 use native.Mathlib.Omega.{arith}
 use lib.ListN.{length, getD, take, drop, length-append, length-take, length-drop, List·getD-map}
 use lib.Seq.{getD-take, getD-drop, take-take, length-take-le}
-use Rattle.definition.specs.Image.{Constant, Chunk, noChunk, Image, chunkAt, textAt}
+use Rattle.definition.specs.Image.{Chunk, chunkAt, textAt}
 use Rattle.definition.specs.Lines.{Load, image, refused, constantsOf, loadImage}
-use Rattle.definition.specs.Loaded.{noConstant, Kept}
+use Rattle.definition.specs.Loaded.{noConstant}
 use Rattle.definition.proofs.Keeps.{loads-kept}
-use Rattle.image.specs.Answer.{numberOf, Slices, Outcome, holds, refuses, outcomeOf, encoded, short, loadIn, flat, codeIn, endsFrom, rowsFrom, kindOf, payloadOf, slicesOf, countsOf, filled, Loads}
+use Rattle.image.specs.Answer.{numberOf, Slices, holds, refuses, encoded, short, loadIn, flat, codeIn, endsFrom, rowsFrom, kindOf, payloadOf, slicesOf, countsOf, filled, Loads}
 use Rattle.image.specs.Held.{cut, HeldChunk, HeldText, Held, Found}
 use Rattle.image.specs.declared.Reason.{Reason}
 use Rattle.image.specs.declared.Counts.{Counts}

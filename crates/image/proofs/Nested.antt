@@ -2,18 +2,18 @@
 use mathlib.Core.Path.{_≡_, refl, sym, ap, _∙_}
 use mathlib.Core.Bool.{Bool, true, false, cond, _&&_}
 use mathlib.Core.List.{List, [], _∷_, _++_, map, append-assoc, append-nil}
-use Prim.Native.Nat.{ℕ, zero, suc, _+_, _*_, _-_, _≤_, _<_}
+use Prim.Native.Nat.{ℕ, _+_, _-_, _<_}
 use native.Mathlib.Omega.{arith}
 use borrow.Author.Tests.{lt-ltb, le-ltb, ltb-true, ltb-false}
 use lib.Dec.{ltb, leb, eqb}
 use lib.ListN.{length, length-append}
 use Rattle.definition.specs.Image.{Constant, Chunk, Image}
-use Rattle.definition.specs.Lines.{Load, image, refused, isEmpty, split, Line, line, faulty, lineOf, Seen, text, opens, constant, code, ends, fault, recordOf, inTexts, inConstants, inCode, afterShort, takesText, takesConstant, takesCode, partAfterCode, openChunk, onOpen, seen, addText, opened, addChunk, withConstant, addConstant, withCode, addCode, constantsOf, allNamed, ending, follow, reads, blank, loadImage}
+use Rattle.definition.specs.Lines.{image, refused, isEmpty, split, Line, line, faulty, lineOf, text, opens, constant, code, ends, fault, recordOf, inTexts, inConstants, inCode, afterShort, takesText, partAfterCode, openChunk, onOpen, seen, addText, opened, addChunk, withConstant, addConstant, withCode, addCode, constantsOf, allNamed, ending, follow, reads, blank, loadImage}
 use Rattle.definition.specs.Lines.{Part as FormatPart, Record as FormatRecord, onLine as formatLine}
 use Rattle.definition.proofs.Judged.{true-not-false, false-not-true, LineBytes, line-bytes, Told, told}
 use Rattle.definition.proofs.Keeps.{open-length, empty-snoc, empty-open, constant-no-text, code-no-text, after-code-no-text}
-use Rattle.image.specs.Answer.{Slices, Outcome, holds, refuses, flat, codeIn, bytesIn, endsFrom, kindOf, payloadOf, rowsFrom, slicesOf, countsOf, encoded}
-use Rattle.image.specs.Turns.{partOf, seenOf, namedBy, partAfter, Parts, start, advance, grow, countsIn, closing, onRecord, onLine, go, goes, loadOf}
+use Rattle.image.specs.Answer.{holds, refuses, flat, codeIn, bytesIn, endsFrom, kindOf, payloadOf, rowsFrom, slicesOf, countsOf, encoded}
+use Rattle.image.specs.Turns.{partOf, seenOf, namedBy, Parts, start, grow, countsIn, closing, onRecord, onLine, go, goes, loadOf}
 use Rattle.image.specs.declared.records.Part.{Part}
 use Rattle.image.specs.declared.records.Part.the-variants.{InTexts, InConstants, InCode, AfterShort}
 use Rattle.image.specs.declared.records.State.{State}

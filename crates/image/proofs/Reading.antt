@@ -2,17 +2,17 @@
 use mathlib.Core.Path.{_≡_, refl, sym, ap, _∙_}
 use mathlib.Core.Bool.{Bool, true, false, cond, _&&_, _||_}
 use mathlib.Core.List.{List, [], _∷_, _++_}
-use Prim.Native.Nat.{ℕ, zero, suc, _+_, _*_, _-_, _≤_, _<_}
+use Prim.Native.Nat.{ℕ, suc, _+_, _*_, _-_, _≤_, _<_}
 use native.Mathlib.Omega.{arith}
-use borrow.Author.Tests.{lt-ltb, le-ltb, le-leb, lt-leb, eq-eqb, ne-eqb}
-use lib.Dec.{ltb, leb, eqb}
-use lib.ListN.{length, getD, take, drop, length-drop, length-take, take-append-drop, drop-of-length-le}
+use borrow.Author.Tests.{lt-ltb, le-ltb, le-leb, lt-leb, ne-eqb}
+use lib.Dec.{ltb, eqb}
+use lib.ListN.{length, getD, take, drop, length-drop, take-append-drop, drop-of-length-le}
 use lib.Seq.{drop-cons, drop-at, drop-drop, drop-append-le, drop-append-add, length-take-le, take-append-le}
 use Rattle.definition.specs.Lines.{isEmpty, Split, split, inFront, Line, line, faulty, lineOf, Seen, recordOf, loadImage}
 use Rattle.definition.specs.Lines.{Record as FormatRecord}
 use Rattle.definition.proofs.Judged.{true-not-false, false-not-true, cond-elim, LineBytes, line-bytes, Told, told}
-use Rattle.image.specs.Answer.{numberOf, Slices, Outcome, holds, refuses, outcomeOf, encoded, short, loadIn, Behind, BehindMost, Left, Loads}
-use Rattle.image.specs.Turns.{seenOf, says, readOf, ReadFits, Parts, none-yet, start, advance, grow, countsIn, closing, onRecord, onLine, go, goes, loadOf, heldBy, partsOf, Roomy, Sized, Fine, Accepted, finishOf, turnOf, BehindState, TurnFits, Grows, TurnLeft, TakesLine, LoadsLines}
+use Rattle.image.specs.Answer.{Slices, holds, refuses, encoded, short, loadIn, Behind, BehindMost, Loads}
+use Rattle.image.specs.Turns.{seenOf, says, readOf, ReadFits, Parts, none-yet, advance, grow, countsIn, onRecord, onLine, go, goes, loadOf, heldBy, partsOf, Roomy, Sized, Fine, Accepted, finishOf, turnOf, BehindState, TurnFits, Grows, TurnLeft, TakesLine, LoadsLines}
 use Rattle.image.specs.declared.Reason.{Reason}
 use Rattle.image.specs.declared.Reason.the-variants.{TooLong, BadLine, NoEnd, NoSuchChunk, ShortSlice}
 use Rattle.image.specs.declared.LoadAnswer.{LoadAnswer}

@@ -1,17 +1,14 @@
 -- What a record leaves in the work slices.
 use mathlib.Core.Path.{_≡_, refl, sym, ap, _∙_}
-use mathlib.Core.Bool.{Bool, true, false, cond}
 use mathlib.Core.List.{List, [], _∷_, _++_, append-assoc, append-nil}
-use Prim.Native.Nat.{ℕ, zero, suc, _+_, _*_, _-_, _≤_, _<_}
+use Prim.Native.Nat.{ℕ, _+_, _*_, _-_, _≤_, _<_}
 use native.Mathlib.Numerals.{add-one}
 use native.Mathlib.Omega.{arith}
-use lib.ListN.{length, getD, take, drop, set, length-set}
+use lib.ListN.{length, take, drop, set, length-set}
 use lib.Seq.{take-suc-set, drop-set-lt, length-take-le, take-at, take-append-add}
-use Rattle.definition.specs.Lines.{recordOf}
-use Rattle.definition.specs.Lines.{Record as FormatRecord}
 use Rattle.definition.proofs.Judged.{Told}
 use Rattle.image.specs.Answer.{Slices}
-use Rattle.image.specs.Turns.{seenOf, says, namedBy, partAfter, afterText, afterChunk, afterConstant, afterCode, afterEnd, Parts, advance, newBytes, grow, heldBy, partsOf, Fine, Accepted}
+use Rattle.image.specs.Turns.{seenOf, says, afterText, afterChunk, afterConstant, afterCode, afterEnd, Parts, advance, newBytes, grow, partsOf, Fine, Accepted}
 use Rattle.image.specs.declared.Reason.{Reason}
 use Rattle.image.specs.declared.records.State.{State}
 use Rattle.image.specs.declared.records.Record.{Record}

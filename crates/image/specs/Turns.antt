@@ -1,7 +1,7 @@
 -- The reading of an image, line after line, over the work slices: what the crate's own functions are held to. proofs/Nested.antt shows that
 -- it gives the image that document 01 describes.
 use mathlib.Core.Path.{_≡_}
-use mathlib.Core.Bool.{Bool, true, false, cond, _&&_}
+use mathlib.Core.Bool.{Bool, cond, _&&_}
 use mathlib.Core.List.{List, [], _∷_, _++_}
 use Prim.Native.Nat.{ℕ, _+_, _*_, _-_, _≤_, _<_}
 use lib.ListN.{length, take, drop}

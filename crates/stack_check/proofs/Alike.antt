@@ -1,6 +1,6 @@
 -- Chunks with the same code and constants of the same kinds are judged alike. Assumes nothing.
-use mathlib.Core.Path.{_≡_, refl, sym, _∙_, ap, subst}
-use mathlib.Core.Bool.{Bool, _&&_}
+use mathlib.Core.Path.{_≡_, refl, sym, _∙_, ap}
+use mathlib.Core.Bool.{Bool}
 use mathlib.Core.List.{List, [], _∷_}
 use mathlib.Core.Option.{Option, none, some}
 use Prim.Native.Nat.{ℕ, zero, suc, _<_}
@@ -13,7 +13,7 @@ use Rattle.definition.specs.StackCheck as rules
 use Rattle.definition.specs.CheckAnswer as answer
 use Rattle.chunk.specs.Fault.{kindsOf}
 use Rattle.chunk.proofs.Judging.{function-is, str-is}
-use Rattle.stack_check.specs.Answer.{ChunkIs, reasonNumber}
+use Rattle.stack_check.specs.Answer.{ChunkIs}
 use Rattle.stack_check.specs.declared.ChunkAnswer.{ChunkAnswer}
 use Rattle.stack_check.specs.declared.ChunkAnswer.the-variants.{Pass, Fault}
 

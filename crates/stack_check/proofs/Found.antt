@@ -11,7 +11,6 @@ use lib.ListN.{length, getD, getElem?}
 use Rattle.definition.specs.Image.{Chunk}
 use Rattle.definition.specs.Table as table
 use Rattle.definition.specs.Decode as definition
-use Rattle.chunk.specs.Decode.{instrOf, decodedAt, Small}
 use Rattle.chunk.specs.Fault.{faultNumber, numberOf, Inspects}
 use Rattle.chunk.specs.declared.Instr.{Instr}
 use Rattle.chunk.specs.declared.StaticFault.{StaticFault}
@@ -19,7 +18,7 @@ use Rattle.chunk.specs.declared.StaticFault.the-variants as fault
 use Rattle.chunk.specs.declared.Inspected.{Inspected}
 use Rattle.chunk.specs.declared.Inspected.the-variants.{Sound, Fault}
 use Rattle.chunk.proofs.Judging.{whole-found}
-use Rattle.stack_check.specs.Node.{nodeOf, nodeAt, Taken, NodeIs, Drawn, Here}
+use Rattle.stack_check.specs.Node.{nodeOf, nodeAt, NodeIs, Drawn, Here}
 use Rattle.stack_check.specs.declared.Node.{Node}
 
 -- a whole instruction ends within the code

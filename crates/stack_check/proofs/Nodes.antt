@@ -1,27 +1,22 @@
 -- A node is the definition's instruction. Assumes nothing.
-use mathlib.Core.Path.{_≡_, refl, sym, _∙_, ap, subst}
-use mathlib.Core.Bool.{Bool, true, false}
+use mathlib.Core.Path.{_≡_, refl, sym, _∙_, ap}
 use mathlib.Core.List.{List, [], _∷_, map}
-use mathlib.Core.Logic.{_⊎_, inl, inr, ⊎-elim}
+use mathlib.Core.Logic.{_⊎_, ⊎-elim}
 use mathlib.Core.Option.{Option, none, some}
 use Prim.Native.Nat.{ℕ, zero, suc, _+_, _*_, _-_, _≤_, _<_}
 use native.Mathlib.Omega.{arith}
-use borrow.Author.Tests.{le-leb, lt-leb, leb-true}
-use lib.Dec.{leb}
-use lib.ListN.{length, getD, getElem?}
-use Rattle.definition.specs.Image.{Constant, Chunk}
+use borrow.Author.Tests.{le-leb}
+use Rattle.definition.specs.Image.{Chunk}
 use Rattle.definition.specs.Table as table
 use Rattle.definition.specs.Decode as definition
-use Rattle.chunk.specs.Table.{rowOf, flowOf, flowNumber, flowAt}
-use Rattle.chunk.specs.Decode.{held, instrOf, decodedAt, Small}
-use Rattle.chunk.specs.Cursor.{pick}
+use Rattle.chunk.specs.Table.{flowOf, flowNumber, flowAt}
+use Rattle.chunk.specs.Decode.{held, instrOf}
 use Rattle.chunk.specs.Fault.{kindsOf}
 use Rattle.chunk.specs.declared.Flow.{Flow}
 use Rattle.chunk.specs.declared.Flow.the-variants.{Straight, Opens, Closes, Forward, Backward, Forks, Ends, MayEnd}
-use Rattle.chunk.specs.declared.Row.{Row}
 use Rattle.chunk.specs.declared.Instr.{Instr}
 use Rattle.chunk.proofs.Rows as rows
-use Rattle.stack_check.specs.Node.{turnOf, firstOf, secondOf, nodeBy, nodeOf, nodeAt, Taken, NodeIs, ofKind, chunkOf}
+use Rattle.stack_check.specs.Node.{turnOf, firstOf, secondOf, nodeOf, nodeAt, NodeIs, ofKind}
 use Rattle.stack_check.specs.declared.Turn.{Turn}
 use Rattle.stack_check.specs.declared.Node.{Node}
 

@@ -13,7 +13,6 @@ use Rattle.definition.specs.CheckAnswer as answer
 use Rattle.chunk.specs.Table.{flowOf}
 use Rattle.stack_check.specs.Node.{turnOf, nodeBy, nodeOf, nodeAt}
 use Rattle.stack_check.specs.Flat.{Goes, Reach, Comes, Fit, Obeys, Assigned, NoFault, Lowest, heightAfter, depthAfter}
-use Rattle.stack_check.specs.declared.Node.{Node}
 
 -- where control goes
 goes-by : (f : table.Flow) (n l z a p t : ℕ) → Goes (nodeBy (flowOf f) n l (p + z) a) t → rules.AfterBy f z a p t

@@ -9,15 +9,12 @@ use native.Mathlib.Decide.{ℕ-discrete, decLt}
 use native.Mathlib.Omega.{arith}
 use lib.ListN.{length, getD, set, length-set}
 use lib.Seq.{getD-set-same, getD-set-other}
-use mathlib.Core.Bool.{Bool, true, false}
-use borrow.Author.Tests.{ltb-true, leb-true}
-use lib.Dec.{ltb, leb, eqb}
 use Rattle.definition.specs.Image.{Chunk}
 use Rattle.definition.specs.Decode.{fault}
 use Rattle.stack_check.specs.Node.{nodeAt}
 use Rattle.stack_check.proofs.Nodes.{leaves-small, opens-small}
-use Rattle.stack_check.specs.Flat.{Goes, Reach, Assigned, Fit, Obeys, Comes, Lowest, NoFault, heightAfter, depthAfter}
-use Rattle.stack_check.specs.Progress.{zeros, zero-at, Arrived, Handled, HandledAt, Listed, Forced, Progress, Kept, Coming, Visited, Spread, Handling, Tested}
+use Rattle.stack_check.specs.Flat.{Goes, Reach, Assigned, Fit, Obeys, Lowest, NoFault, heightAfter, depthAfter}
+use Rattle.stack_check.specs.Progress.{zeros, zero-at, Arrived, HandledAt, Listed, Forced, Progress, Kept, Coming, Visited, Spread, Handling}
 use Rattle.stack_check.specs.declared.Search.{Search}
 use Rattle.stack_check.specs.declared.Node.{Node}
 

@@ -1,17 +1,17 @@
 -- From the chunks to the image. Assumes nothing.
-use mathlib.Core.Path.{_≡_, refl, sym, _∙_, ap, subst}
+use mathlib.Core.Path.{_≡_, sym, _∙_, subst}
 use mathlib.Core.List.{List}
 use mathlib.Core.Logic.{_⊎_, ⊎-elim}
 use Prim.Native.Nat.{ℕ, _+_, _≤_, _<_}
 use native.Mathlib.Omega.{arith}
 use lib.ListN.{length}
-use Rattle.definition.specs.Image.{Chunk, Image, chunkAt}
+use Rattle.definition.specs.Image.{Chunk, chunkAt}
 use Rattle.chunk.specs.Fault.{kindsOf}
 use Rattle.definition.specs.StackCheck.{ChunkPasses, Passes}
-use Rattle.definition.specs.CheckAnswer.{Answers, Wrong, Decides}
+use Rattle.definition.specs.CheckAnswer.{Answers, Wrong}
 use Rattle.definition.proofs.OneAnswer.{settled}
 use Rattle.stack_check.specs.Node.{chunkOf}
-use Rattle.stack_check.specs.Answer.{reasonNumber, checkedOf, ChunkIs, Roomy, cut, ChunkHeld, RowLent, RowDecided, ImageHeld, ImageRoomy, Lent, Decided, PassBelow}
+use Rattle.stack_check.specs.Answer.{reasonNumber, checkedOf, ChunkIs, Roomy, RowLent, RowDecided, Lent, Decided, PassBelow}
 use Rattle.stack_check.specs.declared.Reason.{Reason}
 use Rattle.stack_check.specs.declared.ChunkAnswer.{ChunkAnswer}
 use Rattle.stack_check.specs.declared.ChunkAnswer.the-variants as one

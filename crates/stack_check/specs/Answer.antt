@@ -1,12 +1,12 @@
 -- What the check answers, in the definition's terms.
 use mathlib.Core.Path.{_≡_}
-use mathlib.Core.List.{List, map}
+use mathlib.Core.List.{List}
 use Prim.Native.Nat.{ℕ, _+_, _*_, _-_, _≤_, _<_}
 use lib.ListN.{length, getD, take, drop}
 use Rattle.definition.specs.Image.{Chunk, Image, chunkAt}
 use Rattle.definition.specs.StackCheck.{ChunkPasses}
-use Rattle.definition.specs.CheckAnswer.{Checked, pass, fails, Wrong, Answers, Decides}
-use Rattle.chunk.specs.Fault.{faultNumber, kindsOf}
+use Rattle.definition.specs.CheckAnswer.{Checked, pass, fails, Wrong, Decides}
+use Rattle.chunk.specs.Fault.{kindsOf}
 use Rattle.stack_check.specs.declared.Reason.{Reason}
 use Rattle.stack_check.specs.declared.Reason.the-variants.{Instruction, Loop, Constant, NoHeights}
 use Rattle.stack_check.specs.declared.ChunkAnswer.{ChunkAnswer}

@@ -1,7 +1,6 @@
 -- Inner step: the rules of the stack check over what the search works with, an instruction as a `Node`. proofs/Same.antt shows that they are the
 -- definition's (`Reach`, `Heights` of the crate `definition`), of which the contracts speak.
 use mathlib.Core.Path.{_≡_}
-use mathlib.Core.List.{List}
 use mathlib.Core.Logic.{_⊎_}
 use Prim.Native.Nat.{ℕ, _+_, _-_, _≤_, _<_}
 use lib.ListN.{length}

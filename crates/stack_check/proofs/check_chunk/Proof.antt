@@ -1,13 +1,8 @@
 use borrow.Author.Needs.{needs}
 use Rattle.stack_check.proofs.check_chunk.Statement.{statement}
 use Rattle.stack_check.proofs.check_chunk.Tie as tie
-use borrow.Author.Tests.{lt-ltb, le-ltb, le-leb, lt-leb, eq-eqb, ne-eqb}
-use native.Mathlib.Omega.{arith}
-use mathlib.Core.Path.{_≡_, refl, _∙_, sym, ap}
-use Prim.Native.Nat.{ℕ, _+_, _*_, _-_, _≤_, _<_}
-use lib.ListN.{length, getD}
-use Rattle.stack_check.proofs.Nodes.{kinds-back}
-use Rattle.stack_check.proofs.Alike.{answer-alike}
+use mathlib.Core.Path.{sym}
+use Prim.Native.Nat.{_-_}
 use Rattle.stack_check.proofs.Whole.{answer-for}
 
 judge-requires : tie.Need-judge-requires

@@ -1,14 +1,13 @@
 use Rattle.stack_check.proofs.clear.Statement.{statement}
 use Rattle.stack_check.proofs.clear.Tie as tie
-use borrow.Author.Tests.{lt-ltb, le-ltb, le-leb, lt-leb, eq-eqb, ne-eqb}
 use native.Mathlib.Omega.{arith}
-use mathlib.Core.Path.{refl, _∙_, sym, ap}
-use borrow.Author.Needs.{needs, scaled-fits}
+use mathlib.Core.Path.{refl, _∙_}
+use borrow.Author.Needs.{scaled-fits}
 use mathlib.Core.Path.{_≡_}
 use mathlib.Core.Logic.{⊎-elim}
-use Prim.Native.Nat.{ℕ, _+_, _-_, _≤_, _<_}
+use Prim.Native.Nat.{ℕ, _-_, _≤_, _<_}
 use native.Mathlib.Nat.{not-suc-le-zero}
-use lib.ListN.{length, getD, set, length-set, List·getD-eq-default}
+use lib.ListN.{length, getD, length-set, List·getD-eq-default}
 use lib.Seq.{getD-set-same, getD-set-other}
 use Rattle.stack_check.proofs.Theory.{below-next, below-or}
 

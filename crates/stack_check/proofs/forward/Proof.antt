@@ -1,11 +1,9 @@
 use borrow.Author.Needs.{needs}
 use Rattle.stack_check.proofs.forward.Statement.{statement}
 use Rattle.stack_check.proofs.forward.Tie as tie
-use borrow.Author.Tests.{lt-ltb, le-ltb, le-leb, lt-leb, eq-eqb, ne-eqb}
-use native.Mathlib.Omega.{arith}
-use mathlib.Core.Path.{_≡_, refl, _∙_, sym, ap}
-use Prim.Native.Nat.{ℕ, _+_, _*_, _-_, _≤_, _<_}
-use lib.ListN.{length, getD}
+use borrow.Author.Tests.{le-leb}
+use mathlib.Core.Path.{_∙_}
+use Prim.Native.Nat.{_-_}
 use Rattle.stack_check.proofs.Nodes.{fits-in}
 
 jump-forward-requires : tie.Need-jump-forward-requires

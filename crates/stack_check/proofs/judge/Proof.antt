@@ -1,14 +1,13 @@
 use Rattle.stack_check.proofs.judge.Statement.{statement}
 use Rattle.stack_check.proofs.judge.Tie as tie
-use borrow.Author.Tests.{lt-ltb, le-ltb, le-leb, lt-leb, eq-eqb, ne-eqb}
 use native.Mathlib.Omega.{arith}
-use mathlib.Core.Path.{refl, _∙_, sym, ap}
-use mathlib.Core.Path.{_≡_, subst}
-use Prim.Native.Nat.{ℕ, _+_, _-_, _≤_, _<_}
-use lib.ListN.{length, getD, set, length-set}
+use mathlib.Core.Path.{refl, _∙_}
+use mathlib.Core.Path.{_≡_}
+use Prim.Native.Nat.{_-_}
+use lib.ListN.{length, length-set}
 use Rattle.stack_check.specs.Node.{chunkOf}
 use Rattle.stack_check.proofs.Same.{passes, lowest-to, none-to}
-use Rattle.stack_check.specs.Progress.{Progress, Coming, Visited, Spread, Handling}
+use Rattle.stack_check.specs.Progress.{Progress}
 use Rattle.stack_check.proofs.Theory.{positive, progress-begun, falls, empty-passes, end-fault, no-fault, end-wrong, end-right}
 
 abbrev Inv-loop : tie.InvT-loop

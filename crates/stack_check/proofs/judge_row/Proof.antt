@@ -1,10 +1,8 @@
 use Rattle.stack_check.proofs.judge_row.Statement.{statement}
 use Rattle.stack_check.proofs.judge_row.Tie as tie
-use borrow.Author.Tests.{lt-ltb, le-ltb, le-leb, lt-leb, eq-eqb, ne-eqb}
 use native.Mathlib.Omega.{arith}
-use mathlib.Core.Path.{_≡_, refl, _∙_, sym, ap}
-use Prim.Native.Nat.{ℕ, _+_, _*_, _-_, _≤_, _<_}
-use lib.ListN.{length, getD}
+use Prim.Native.Nat.{_+_, _*_, _-_}
+use lib.ListN.{getD}
 use borrow.Author.Needs.{needs}
 use Rattle.stack_check.proofs.Whole.{roomy-cut, answer-for}
 use Rattle.stack_check.specs.Answer.{cut}

@@ -1,13 +1,8 @@
 use borrow.Author.Needs.{needs}
 use Rattle.stack_check.proofs.meets.Statement.{statement}
 use Rattle.stack_check.proofs.meets.Tie as tie
-use borrow.Author.Tests.{lt-ltb, le-ltb, le-leb, lt-leb, eq-eqb, ne-eqb}
-use native.Mathlib.Omega.{arith}
-use mathlib.Core.Path.{refl, _∙_, sym, ap}
-use mathlib.Core.Path.{_≡_, subst}
-use Prim.Native.Nat.{ℕ, _+_, _-_, _≤_, _<_}
-use lib.ListN.{length, getD, set, length-set}
-use Rattle.stack_check.specs.Progress.{Progress, Coming, Visited, Spread, Handling}
+use mathlib.Core.Path.{refl}
+use Prim.Native.Nat.{_-_}
 
 returns : tie.Need-returns
 returns c = search needs

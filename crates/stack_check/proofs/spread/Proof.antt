@@ -1,15 +1,10 @@
 use borrow.Author.Needs.{needs}
 use Rattle.stack_check.proofs.spread.Statement.{statement}
 use Rattle.stack_check.proofs.spread.Tie as tie
-use borrow.Author.Tests.{lt-ltb, le-ltb, le-leb, lt-leb, eq-eqb, ne-eqb}
-use native.Mathlib.Omega.{arith}
-use mathlib.Core.Path.{refl, _∙_, sym, ap}
-use mathlib.Core.Path.{_≡_, subst}
-use Prim.Native.Nat.{ℕ, _+_, _-_, _≤_, _<_}
-use lib.ListN.{length, getD, set, length-set}
-use Rattle.stack_check.specs.Progress.{Progress, Coming, Visited, Spread, Handling}
-use Rattle.stack_check.proofs.Theory.{positive, visit-past, visit-wrong, visit-new, visit-same, room-left, wrong-end, wrong-height, wrong-depth, coming-later, spread-two, kept-refl, progress-broken, unfit-wrong, coming-wrong, coming-right, height-small, depth-small, tail-small, handling-right, handling-wrong, step-lower, step-higher, step-handled}
-use mathlib.Core.Logic.{_⊎_, inl, inr}
+use mathlib.Core.Path.{refl}
+use Prim.Native.Nat.{_-_}
+use Rattle.stack_check.proofs.Theory.{coming-later, spread-two, kept-refl}
+use mathlib.Core.Logic.{inl, inr}
 
 returns : tie.Need-returns
 returns c = record { progress = (c .before .before .before .before .before .before .before .pre .0); kept = kept-refl _ _ _ _; arrived = λ t g. absurd ((c .if1 .taken) (g .0)) }

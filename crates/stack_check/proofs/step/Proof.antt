@@ -1,15 +1,13 @@
 use borrow.Author.Needs.{needs}
 use Rattle.stack_check.proofs.step.Statement.{statement}
 use Rattle.stack_check.proofs.step.Tie as tie
-use borrow.Author.Tests.{lt-ltb, le-ltb, le-leb, lt-leb, eq-eqb, ne-eqb}
 use native.Mathlib.Omega.{arith}
-use mathlib.Core.Path.{_≡_, refl, _∙_, sym, ap}
-use Prim.Native.Nat.{ℕ, _+_, _*_, _-_, _≤_, _<_}
-use lib.ListN.{length, getD}
+use mathlib.Core.Path.{refl}
+use Prim.Native.Nat.{_-_}
 use Rattle.stack_check.proofs.Nodes.{kinds-back}
-use Rattle.stack_check.proofs.Found.{drawn, node-here, is-faulty, is-clean, is-here}
+use Rattle.stack_check.proofs.Found.{is-faulty, is-clean, is-here}
 use Rattle.stack_check.specs.Node.{chunkOf}
-use Rattle.stack_check.proofs.Theory.{progress-broken, unfit-wrong, coming-wrong, coming-right, height-small, depth-small, tail-small, handling-right, handling-wrong, step-lower, step-higher, step-handled}
+use Rattle.stack_check.proofs.Theory.{step-lower, step-higher, step-handled}
 
 mul-at : tie.Need-mul-at
 mul-at c = search needs

@@ -1,14 +1,9 @@
 use borrow.Author.Needs.{needs}
 use Rattle.stack_check.proofs.visit.Statement.{statement}
 use Rattle.stack_check.proofs.visit.Tie as tie
-use borrow.Author.Tests.{lt-ltb, le-ltb, le-leb, lt-leb, eq-eqb, ne-eqb}
 use native.Mathlib.Omega.{arith}
-use mathlib.Core.Path.{refl, _∙_, sym, ap}
-use mathlib.Core.Path.{_≡_, subst}
-use Prim.Native.Nat.{ℕ, _+_, _-_, _≤_, _<_}
-use lib.ListN.{length, getD, set, length-set}
-use Rattle.stack_check.specs.Progress.{Progress, Coming, Visited, Spread, Handling}
-use Rattle.stack_check.proofs.Theory.{positive, visit-past, visit-wrong, visit-new, visit-same, room-left, wrong-end, wrong-height, wrong-depth, coming-later, spread-two, kept-refl, progress-broken, unfit-wrong, coming-wrong, coming-right, height-small, depth-small, tail-small, handling-right, handling-wrong, step-lower, step-higher, step-handled}
+use Prim.Native.Nat.{ℕ, _-_, _≤_, _<_}
+use Rattle.stack_check.proofs.Theory.{positive, visit-past, visit-wrong, visit-new, visit-same, room-left, wrong-end, wrong-height, wrong-depth}
 
 apart : {a b : ℕ} → a < b → b ≤ a → ⊥
 apart x y = omega arith
