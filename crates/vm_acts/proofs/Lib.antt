@@ -1,0 +1,5 @@
+pub mod Stacks
+pub mod Opens
+pub mod Carries
+pub mod Takes
+pub mod Leaves
