@@ -1,11 +1,11 @@
 //! Times the operations on numbers beside the Rust that they port, on the same operands in one run.
 //! Each figure is the least of 500 short runs, so that other work on the machine disturbs it little: nanoseconds for one operation with its
-//! share of the loop. On both sides a number is an enum; but for the first line its kind is not known to the compiler.
+//! share of the loop. On both sides a number is an enum whose kind the compiler does not know, and a fault ends the loop.
 use std::hint::black_box;
 use std::time::Instant;
 
 extern "C" {
-    fn bench_add_int(n: u64, step: i64, last: &mut i64) -> u64;
+    fn bench_add(n: u64, kind: u8, first: u64, second: u64, last: &mut u64) -> u64;
     fn bench_sub(n: u64, kind: u8, first: u64, second: u64, last: &mut u64) -> u64;
     fn bench_mul(n: u64, kind: u8, first: u64, second: u64, last: &mut u64) -> u64;
     fn bench_less(n: u64, kind: u8, second: u64, last: &mut u64) -> u64;
@@ -53,6 +53,7 @@ macro_rules! arithmetic {
         }
     };
 }
+arithmetic!(rust_add, checked_add, +);
 arithmetic!(rust_sub, checked_sub, -);
 arithmetic!(rust_mul, checked_mul, *);
 
@@ -99,7 +100,10 @@ fn pair(name: &str, proved: Proved, rust: fn(VmValue, VmValue) -> Option<VmValue
         |n| {
             let (mut acc, step) = (value(kind, first), black_box(value(kind, second)));
             for _ in 0..n {
-                acc = rust(black_box(acc), step).unwrap_or(step);
+                match rust(black_box(acc), step) {
+                    Some(next) => acc = next,
+                    None => break,
+                }
             }
             word(acc)
         },
@@ -114,26 +118,8 @@ fn line(name: &str, ours: f64, theirs: f64) {
 
 fn main() {
     println!("{:<40} {:>7} {:>7}", "ns for one operation", "proved", "Rust");
-    let step = black_box(3i64);
-    let ours = least(
-        |n| {
-            let mut last = 0;
-            assert_eq!(unsafe { bench_add_int(n, step, &mut last) }, n);
-            last as u64
-        },
-        3 * TURNS,
-    );
-    let theirs = least(
-        |n| {
-            let mut acc = 0i64;
-            for _ in 0..n {
-                acc = black_box(acc).checked_add(step).unwrap_or(0);
-            }
-            acc as u64
-        },
-        3 * TURNS,
-    );
-    line("Int Add, the kind known", ours, theirs);
+    pair("Int Add, in the type itself", bench_add, rust_add, INT, 7, 3);
+    pair("SInt Add, by sign and magnitude", bench_add, rust_add, SINT, 7, 3);
     pair("Int Sub, in the type itself", bench_sub, rust_sub, INT, 7, 3);
     pair("SInt Sub, by sign and magnitude", bench_sub, rust_sub, SINT, 7, 3);
     pair("Int Mul, by sign and magnitude", bench_mul, rust_mul, INT, 1_234_567_890_123, u64::MAX);

@@ -1,7 +1,10 @@
-// Loops over the operations on numbers, for the package bench/numbers to time. An operand is given by its kind code and its payload, so
-// that one loop serves every kind, but for Add. Each loop answers how many turns it made, and leaves in `last` what its last turn worked out, so that
-// no turn can be left away.
+// Loops over the operations on numbers, for the package bench/numbers to time. An operand is given by its kind's code and its payload, so
+// that one loop serves every kind and the compiler knows none. Each loop answers how many turns it made. In `last` it leaves what they
+// came to: no turn can be left away. Add, Sub and Mul leave their loop at a fault, as a machine does.
 ghost use mathlib.Core.Path.{_≡_};
+ghost use Rattle.numbers.specs.Arithmetic.{addOf, subOf, mulOf};
+ghost use Rattle.number_codes.specs.Payloads.{payloadOf};
+ghost use Rattle.number_bench.specs.Turns.{numberAt, Gives, steps, paceOf, countOn, valueOr, thereAndBack};
 use number_codes::FoundNumber;
 use numbers::CastTarget;
 use numbers::ComparisonAnswer;
@@ -9,7 +12,9 @@ use numbers::IntKind;
 use numbers::Number;
 use numbers::NumberAnswer;
 
-fn number(kind: u8, word: u64) -> Number {
+fn number(kind: u8, word: u64) -> Number
+    ensures { λ r. ⌜ r ≡ numberAt kind word ⌝ }
+{
     match number_codes::number_of_payload(kind, word) {
         FoundNumber::Found(x) => x,
         FoundNumber::NoNumber => Number::Int(0),
@@ -17,54 +22,68 @@ fn number(kind: u8, word: u64) -> Number {
 }
 
 // The value, or where there is none x.
-fn value_or(answer: NumberAnswer, x: Number) -> Number {
+fn value_or(answer: NumberAnswer, x: Number) -> Number
+    ensures { λ r. ⌜ r ≡ valueOr answer x ⌝ }
+{
     match answer {
         NumberAnswer::Value(y) => y,
-        _ => x,
+        NumberAnswer::Overflow => x,
+        NumberAnswer::ZeroDivisor => x,
+        NumberAnswer::WrongKind => x,
+        NumberAnswer::InvalidCast => x,
     }
 }
 
-fn holds(answer: ComparisonAnswer) -> bool {
+// How far to count: three where the comparison holds.
+fn pace(answer: ComparisonAnswer) -> u64
+    ensures { λ r. ⌜ r ≡ paceOf answer ⌝ }
+{
     match answer {
-        ComparisonAnswer::Holds(b) => b,
-        _ => false,
+        ComparisonAnswer::Holds(b) => if b { 3 } else { 1 },
+        ComparisonAnswer::Unordered => 1,
+        ComparisonAnswer::WrongKind => 1,
     }
 }
 
-fn int_of(answer: NumberAnswer) -> i64 {
-    match answer {
-        NumberAnswer::Value(x) => match x {
-            Number::Int(n) => n,
-            _ => 0,
-        },
-        _ => 0,
-    }
-}
-
-// Add of two Ints. It alone calls `add`, whose way for Ints is then part of the loop, as it is of an interpreter with one place that adds.
+// It alone calls `add`, as a machine has one place that adds.
 #[no_mangle]
-pub extern "C" fn bench_add_int(n: u64, step: i64, last: &mut i64) -> u64
-    ensures { λ r. ⌜ r ≡ n ⌝ }
+pub extern "C" fn bench_add(n: u64, kind: u8, first: u64, second: u64, last: &mut u64) -> u64
+    ensures { λ r. ⌜ Gives (λ x. addOf x (numberAt kind second)) n (numberAt kind first) r (now (last .exit)) ⌝ }
 {
     let mut i: u64 = 0;
-    let mut acc: i64 = *last;
+    let mut acc = number(kind, first);
+    let operand = number(kind, second);
     while i < n {
-        acc = int_of(numbers::add(Number::Int(acc), Number::Int(step)));
+        match numbers::add(acc, operand) {
+            NumberAnswer::Value(y) => {
+                acc = y;
+            }
+            _ => {
+                return i;
+            }
+        }
         i += 1;
     }
-    *last = acc;
+    *last = number_codes::payload_of(acc);
     i
 }
 
 #[no_mangle]
 pub extern "C" fn bench_sub(n: u64, kind: u8, first: u64, second: u64, last: &mut u64) -> u64
-    ensures { λ r. ⌜ r ≡ n ⌝ }
+    ensures { λ r. ⌜ Gives (λ x. subOf x (numberAt kind second)) n (numberAt kind first) r (now (last .exit)) ⌝ }
 {
     let mut i: u64 = 0;
     let mut acc = number(kind, first);
-    let step = number(kind, second);
+    let operand = number(kind, second);
     while i < n {
-        acc = value_or(numbers::sub(acc, step), step);
+        match numbers::sub(acc, operand) {
+            NumberAnswer::Value(y) => {
+                acc = y;
+            }
+            _ => {
+                return i;
+            }
+        }
         i += 1;
     }
     *last = number_codes::payload_of(acc);
@@ -73,13 +92,20 @@ pub extern "C" fn bench_sub(n: u64, kind: u8, first: u64, second: u64, last: &mu
 
 #[no_mangle]
 pub extern "C" fn bench_mul(n: u64, kind: u8, first: u64, second: u64, last: &mut u64) -> u64
-    ensures { λ r. ⌜ r ≡ n ⌝ }
+    ensures { λ r. ⌜ Gives (λ x. mulOf x (numberAt kind second)) n (numberAt kind first) r (now (last .exit)) ⌝ }
 {
     let mut i: u64 = 0;
     let mut acc = number(kind, first);
-    let factor = number(kind, second);
+    let operand = number(kind, second);
     while i < n {
-        acc = value_or(numbers::mul(acc, factor), factor);
+        match numbers::mul(acc, operand) {
+            NumberAnswer::Value(y) => {
+                acc = y;
+            }
+            _ => {
+                return i;
+            }
+        }
         i += 1;
     }
     *last = number_codes::payload_of(acc);
@@ -89,17 +115,13 @@ pub extern "C" fn bench_mul(n: u64, kind: u8, first: u64, second: u64, last: &mu
 // Counts by threes while the count, as a number of the kind, is less than the second operand, then by ones.
 #[no_mangle]
 pub extern "C" fn bench_less(n: u64, kind: u8, second: u64, last: &mut u64) -> u64
-    ensures { λ r. ⌜ r ≡ n ⌝ }
+    ensures { λ r. ⌜ (r ≡ n) × (now (last .exit) ≡ steps (countOn kind (numberAt kind second)) n (now (last .entry))) ⌝ }
 {
     let mut i: u64 = 0;
     let mut acc: u64 = *last;
     let bound = number(kind, second);
     while i < n {
-        if holds(numbers::less(number(kind, acc), bound)) {
-            acc = std::num::wrapping_add_u64(acc, 3);
-        } else {
-            acc = std::num::wrapping_add_u64(acc, 1);
-        }
+        acc = std::num::wrapping_add_u64(acc, pace(numbers::less(number(kind, acc), bound)));
         i += 1;
     }
     *last = acc;
@@ -109,7 +131,7 @@ pub extern "C" fn bench_less(n: u64, kind: u8, second: u64, last: &mut u64) -> u
 // Casts to Float and back to Int.
 #[no_mangle]
 pub extern "C" fn bench_cast(n: u64, kind: u8, first: u64, last: &mut u64) -> u64
-    ensures { λ r. ⌜ r ≡ n ⌝ }
+    ensures { λ r. ⌜ (r ≡ n) × (now (last .exit) ≡ payloadOf (steps thereAndBack n (numberAt kind first))) ⌝ }
 {
     let mut i: u64 = 0;
     let mut acc = number(kind, first);

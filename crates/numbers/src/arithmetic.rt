@@ -169,15 +169,27 @@ fn sub_any(a: Number, b: Number) -> NumberAnswer
     }
 }
 
+// An enum is handed to a function by its address. `add` and `sub` hand copies to the shared way and take its answer into a local, so that the
+// operands and the answer of two Ints, which their caller has in registers, need no memory.
 pub fn add(a: Number, b: Number) -> NumberAnswer
     ensures { λ r. ⌜ r ≡ addOf a b ⌝ }
 {
     match a {
         Number::Int(x) => match b {
             Number::Int(y) => add_int(x, y),
-            _ => add_any(a, b),
+            _ => {
+                let p = a;
+                let q = b;
+                let r = add_any(p, q);
+                r
+            }
         },
-        _ => add_any(a, b),
+        _ => {
+            let p = a;
+            let q = b;
+            let r = add_any(p, q);
+            r
+        }
     }
 }
 
@@ -187,9 +199,19 @@ pub fn sub(a: Number, b: Number) -> NumberAnswer
     match a {
         Number::Int(x) => match b {
             Number::Int(y) => sub_int(x, y),
-            _ => sub_any(a, b),
+            _ => {
+                let p = a;
+                let q = b;
+                let r = sub_any(p, q);
+                r
+            }
         },
-        _ => sub_any(a, b),
+        _ => {
+            let p = a;
+            let q = b;
+            let r = sub_any(p, q);
+            r
+        }
     }
 }
 

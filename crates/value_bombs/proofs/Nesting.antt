@@ -1,4 +1,4 @@
--- Values nested one array at a time.
+-- Values nested two arrays at a time.
 use mathlib.Core.Path.{_≡_, refl, ap, sym, _∙_, subst}
 use mathlib.Core.Logic.{_↔_, _⊎_, ⊎-elim}
 use mathlib.Core.Bool.{Bool, true, false, cond}
@@ -32,68 +32,133 @@ use Rattle.values.specs.Coding.{codeOf, codedAnswer, codedOut, CodeGives}
 use Rattle.values.proofs.Equals.{cells-length}
 use Rattle.values.proofs.Memos.{memo-none, down-none}
 use Rattle.values.proofs.FlatTrees.{none-formed}
-use Rattle.value_bombs.specs.Nested.{nestedTree, noImage, NestedAsks, Stays, NestedAt, CodedGives, done, not-built}
+use Rattle.value_bombs.specs.Nested.{nestedTree, lastTree, noImage, NestedAsks, Stays, Grows, NestedAt, CodedGives, done, not-built}
 
 -- two values stored in a slice of four zeros
-pub pair-is : (p q : List ℕ) (x : VmValue) → pairs p ≡ set (pairs (0 ∷ 0 ∷ 0 ∷ 0 ∷ [])) 0 x → pairs q ≡ set (pairs p) 1 x → take 2 (drop 0 (pairs q)) ≡ x ∷ x ∷ []
+pub pair-is : (p q : List ℕ) (x y : VmValue) → pairs p ≡ set (pairs (0 ∷ 0 ∷ 0 ∷ 0 ∷ [])) 0 x → pairs q ≡ set (pairs p) 1 y → take 2 (drop 0 (pairs q)) ≡ x ∷ y ∷ []
 unfolding pairs
-pair-is p q x ep eq = ap (λ (l : List VmValue). take 2 l) (eq ∙ ap (λ (l : List VmValue). set l 1 x) ep)
+pair-is p q x y ep eq = ap (λ (l : List VmValue). take 2 l) (eq ∙ ap (λ (l : List VmValue). set l 1 y) ep)
 
-pub doubled : (p q : List ℕ) (x : VmValue) (n : ℕ) (ws ws′ : List ℕ) (r : Built) → pairs p ≡ set (pairs (0 ∷ 0 ∷ 0 ∷ 0 ∷ [])) 0 x → pairs q ≡ set (pairs p) 1 x
-    → Builds arr (take 2 (drop 0 (pairs q))) n ws ws′ r → Builds arr (x ∷ x ∷ []) n ws ws′ r
-doubled p q x n ws ws′ r ep eq b = subst (λ (l : List VmValue). Builds arr l n ws ws′ r) (pair-is p q x ep eq) b
+pub paired : (p q : List ℕ) (x y : VmValue) (n : ℕ) (ws ws′ : List ℕ) (r : Built) → pairs p ≡ set (pairs (0 ∷ 0 ∷ 0 ∷ 0 ∷ [])) 0 x → pairs q ≡ set (pairs p) 1 y
+    → Builds arr (take 2 (drop 0 (pairs q))) n ws ws′ r → Builds arr (x ∷ y ∷ []) n ws ws′ r
+paired p q x y n ws ws′ r ep eq b = subst (λ (l : List VmValue). Builds arr l n ws ws′ r) (pair-is p q x y ep eq) b
 
--- ---- the turns of the loop
-pub leaf-at : (leaf : Number) (n : ℕ) (ws : List ℕ) → NestedAsks ws n → NestedAt leaf 0 n ws ws (Num leaf) n
-unfolding treeOver nest nestOver nestedTree
-leaf-at leaf n ws a =
+-- ---- one array built
+pub record Stepped (n : ℕ) (ws ws′ : List ℕ) (a b v : VmValue) : Type 0 where
+  pub asks : NestedAsks ws′ (n + 2)
+  pub placed : Placed (cellsOf (n + 2) ws′) (n + 2) v
+  pub tree : treeOf (cellsOf (n + 2) ws′) v ≡ node arr (more (treeOf (cellsOf n ws) a) (more (treeOf (cellsOf n ws) b) none))
+  pub fit : Fit v
+  pub older : (u : VmValue) → Placed (cellsOf n ws) n u → Stays ws ws′ n (n + 2) u
+
+module _ (n : ℕ) (ws ws′ : List ℕ) (a b v : VmValue) (asks : NestedAsks ws n) (pa : Placed (cellsOf n ws) n a) (pb : Placed (cellsOf n ws) n b) (len : length ws′ ≡ length ws)
+    (built : Builds arr (a ∷ b ∷ []) n ws ws′ (built.Value v)) where
+  both-placed : (j : ℕ) → j < 2 → Placed (cellsOf n ws) n (getD (a ∷ b ∷ []) j Null)
+  both-placed zero l = pa
+  both-placed (suc zero) l = pb
+  both-placed (suc (suc j)) l = let z : ⊥ = omega arith in absurd z
+
+  made : BuiltOn (cellsOf n ws) (cellsOf (n + 2) ws′) arr (a ∷ b ∷ []) v
+  made = built .kept (asks .formed) both-placed
+
+  few : n + 2 ≤ 4096
+  few = built .room
+
+  now-length : length (cellsOf (n + 2) ws′) ≡ n + 2
+  now-length = cells-length (n + 2) ws′ (omega (arith, few, asks .words))
+
+  then-length : length (cellsOf n ws) ≡ n
+  then-length = cells-length n ws (omega (arith, asks .few, asks .words))
+
+  stepped : Stepped n ws ws′ a b v
+  stepped =
+      record {
+        asks = record { words = omega (arith, asks .words); few = few; formed = made .formed };
+        placed = subst (λ (k : ℕ). Placed (cellsOf (n + 2) ws′) k v) now-length (made .placed);
+        tree = made .tree;
+        fit = built .fit;
+        older = λ u p.
+            let o = made .older u (subst (λ (k : ℕ). Placed (cellsOf n ws) k u) (sym then-length) p) in
+            record {
+              placed = record { below = omega (arith, p .below); nests = p .nests ∙ ap nest (sym o) };
+              tree = o;
+            };
+      }
+
+stays-then : {ws₀ ws₁ ws₂ : List ℕ} {n₀ n₁ n₂ : ℕ} {u : VmValue} → Stays ws₀ ws₁ n₀ n₁ u → Stays ws₁ ws₂ n₁ n₂ u → Stays ws₀ ws₂ n₀ n₂ u
+stays-then s t = record { placed = t .placed; tree = t .tree ∙ s .tree }
+
+-- ---- the turns of the loop: y has the last leaf, and x, all of whose leaves are the same, is the first part of the next array
+pub record Twins (leaf last : Number) (depth n : ℕ) (ws ws′ : List ℕ) (x y : VmValue) (n′ : ℕ) : Type 0 where
+  pub path : NestedAt leaf last depth n ws ws′ y n′
+  pub placed : Placed (cellsOf n′ ws′) n′ x
+  pub tree : treeOf (cellsOf n′ ws′) x ≡ nestedTree leaf depth
+  pub fit : Fit x
+
+leaves-at : (leaf last : Number) (n : ℕ) (ws : List ℕ) → NestedAsks ws n → Twins leaf last 0 n ws ws (Num leaf) (Num last) n
+unfolding treeOver nest nestOver nestedTree lastTree
+leaves-at leaf last n ws a =
     record {
-      asks = a;
+      path = record {
+        asks = a;
+        placed = record { below = omega arith; nests = refl };
+        tree = refl;
+        fit = tt;
+        older = λ u p. record { placed = p; tree = refl };
+      };
       placed = record { below = omega arith; nests = refl };
       tree = refl;
       fit = tt;
-      older = λ u p. record { placed = p; tree = refl };
     }
 
-pub first-at : (leaf l : Number) (n : ℕ) (ws : List ℕ) → NestedAsks ws n → Num leaf ≡ Num l → NestedAt l 0 n ws ws (Num leaf) n
-first-at leaf l n ws a e = let q : leaf ≡ l = cc in subst (λ (k : Number). NestedAt k 0 n ws ws (Num leaf) n) q (leaf-at leaf n ws a)
+pub first-twins : (leaf last l m : Number) (n : ℕ) (ws : List ℕ) → NestedAsks ws n → Num leaf ≡ Num l → Num last ≡ Num m → Twins l m 0 n ws ws (Num leaf) (Num last) n
+first-twins leaf last l m n ws a e f =
+    let p : leaf ≡ l = cc in
+    let q : last ≡ m = cc in
+    subst (λ (k : Number). Twins k m 0 n ws ws (Num leaf) (Num last) n) p (subst (λ (k : Number). Twins leaf k 0 n ws ws (Num leaf) (Num last) n) q (leaves-at leaf last n ws a))
 
-module _ (leaf : Number) (i n₀ n : ℕ) (ws₀ ws ws′ : List ℕ) (x v : VmValue) (a : NestedAt leaf i n₀ ws₀ ws x n) (len : length ws′ ≡ length ws)
-    (b : Builds arr (x ∷ x ∷ []) n ws ws′ (built.Value v)) where
-  both-placed : (j : ℕ) → j < 2 → Placed (cellsOf n ws) n (getD (x ∷ x ∷ []) j Null)
-  both-placed zero l = a .placed
-  both-placed (suc zero) l = a .placed
-  both-placed (suc (suc j)) l = let z : ⊥ = omega arith in absurd z
+module _ (leaf last : Number) (i n₀ n : ℕ) (ws₀ ws ws′ : List ℕ) (x y v w : VmValue) (a : Twins leaf last i n₀ ws₀ ws x y n) (len : length ws′ ≡ length ws) (g : Grows x y n ws ws′ v w) where
+  first : Stepped n ws (g .between) x y v
+  first = stepped n ws (g .between) x y v (a .path .asks) (a .placed) (a .path .placed) (g .between-length) (g .path)
 
-  made : BuiltOn (cellsOf n ws) (cellsOf (n + 2) ws′) arr (x ∷ x ∷ []) v
-  made = b .kept (a .asks .formed) both-placed
+  x-stays : Stays ws (g .between) n (n + 2) x
+  x-stays = first .older x (a .placed)
 
-  few : n + 2 ≤ 4096
-  few = b .room
+  second : Stepped (n + 2) (g .between) ws′ x x w
+  second = stepped (n + 2) (g .between) ws′ x x w (first .asks) (x-stays .placed) (x-stays .placed) (len ∙ sym (g .between-length)) (g .shared)
 
-  now-length : length (cellsOf (n + 2) ws′) ≡ n + 2
-  now-length = cells-length (n + 2) ws′ (omega (arith, few, a .asks .words))
+  v-stays : Stays (g .between) ws′ (n + 2) (n + 2 + 2) v
+  v-stays = second .older v (first .placed)
 
-  then-length : length (cellsOf n ws) ≡ n
-  then-length = cells-length n ws (omega (arith, a .asks .few, a .asks .words))
+  grown : Twins leaf last (suc i) n₀ ws₀ ws′ w v (n + 2 + 2)
+  unfolding nestedTree lastTree
+  grown =
+      record {
+        path = record {
+          asks = second .asks;
+          placed = v-stays .placed;
+          tree = v-stays .tree ∙ first .tree ∙ ap (λ (t : Value). node arr (more t (more (treeOf (cellsOf n ws) y) none))) (a .tree) ∙ ap (λ (t : Value). node arr (more (nestedTree leaf i) (more t none))) (a .path .tree);
+          fit = first .fit;
+          older = λ u p.
+              let s = a .path .older u p in
+              let t = first .older u (s .placed) in
+              stays-then s (stays-then t (second .older u (t .placed)));
+        };
+        placed = second .placed;
+        tree = second .tree ∙ ap (λ (t : Value). node arr (more t (more t none))) (x-stays .tree ∙ a .tree);
+        fit = second .fit;
+      }
 
-  pub next-at : NestedAt leaf (i + 1) n₀ ws₀ ws′ v (n + 2)
-  unfolding nestedTree
-  next-at =
-      subst (λ (d : ℕ). NestedAt leaf d n₀ ws₀ ws′ v (n + 2)) (sym (add-one i))
-      (record {
-        asks = record { words = omega (arith, a .asks .words); few = few; formed = made .formed };
-        placed = subst (λ (k : ℕ). Placed (cellsOf (n + 2) ws′) k v) now-length (made .placed);
-        tree = made .tree ∙ ap (λ (t : Value). node arr (more t (more t none))) (a .tree);
-        fit = b .fit;
-        older = λ u p.
-            let s = a .older u p in
-            let o = made .older u (subst (λ (k : ℕ). Placed (cellsOf n ws) k u) (sym then-length) (s .placed)) in
-            record {
-              placed = record { below = omega (arith, s .placed .below); nests = s .placed .nests ∙ ap nest (sym o) };
-              tree = o ∙ s .tree;
-            };
-      })
+  pub next-twins : Twins leaf last (i + 1) n₀ ws₀ ws′ w v (n + 4)
+  next-twins =
+      let four : n + 2 + 2 ≡ n + 4 = omega arith in
+      subst (λ (k : ℕ). Twins leaf last (i + 1) n₀ ws₀ ws′ w v k) four (subst (λ (d : ℕ). Twins leaf last d n₀ ws₀ ws′ w v (n + 2 + 2)) (sym (add-one i)) grown)
+
+-- where the last leaf is as the others all are the same
+pub all-same : (n : Number) (d : ℕ) → lastTree n n d ≡ nestedTree n d
+unfolding nestedTree lastTree
+all-same n zero = refl
+all-same n (suc d) = ap (λ (t : Value). node arr (more (nestedTree n d) (more t none))) (all-same n d)
 
 -- ---- comparing and coding
 none-there : (a : ℕ) → classOf (0 ∷ []) a ≡ 0
@@ -121,9 +186,9 @@ zeros (suc n) (suc i) = zeros n i
 pub empty-asks : (ws : List ℕ) → 8192 ≤ length ws → NestedAsks ws 0
 empty-asks ws h = record { words = h; few = omega arith; formed = none-formed }
 
-pub equal-asks : (left right : Number) (depth n m : ℕ) (ws₀ ws₁ ws : List ℕ) (memo : List ℕ) (a b : VmValue) → memo ≡ replicate {A = ℕ} (length memo) 0 → 4096 ≤ length memo
-    → NestedAt left depth 0 ws₀ ws₁ a n → NestedAt right depth n ws₁ ws b m → EqualAsks (0 ∷ []) (0 ∷ []) ws m memo a b
-equal-asks left right depth n m ws₀ ws₁ ws memo a b z l x y =
+pub equal-asks : (left left′ right right′ : Number) (depth n m : ℕ) (ws₀ ws₁ ws : List ℕ) (memo : List ℕ) (a b : VmValue) → memo ≡ replicate {A = ℕ} (length memo) 0 → 4096 ≤ length memo
+    → NestedAt left left′ depth 0 ws₀ ws₁ a n → NestedAt right right′ depth n ws₁ ws b m → EqualAsks (0 ∷ []) (0 ∷ []) ws m memo a b
+equal-asks left left′ right right′ depth n m ws₀ ws₁ ws memo a b z l x y =
     let none : (i : ℕ) → getD memo i 0 ≡ 0 = λ i. ap (λ (w : List ℕ). getD w i 0) z ∙ zeros (length memo) i in
     record {
       room = omega (arith, y .asks .few, y .asks .words);
@@ -135,22 +200,22 @@ equal-asks left right depth n m ws₀ ws₁ ws memo a b z l x y =
       told = λ im ct. memo-none im (treesOf (cellsOf m ws)) memo none;
     }
 
-pub equal-gives : (left right : Number) (depth n m : ℕ) (ws₀ ws₁ ws : List ℕ) (memo : List ℕ) (a b : VmValue) (r : Bool)
-    → NestedAt left depth 0 ws₀ ws₁ a n → NestedAt right depth n ws₁ ws b m → EqualGives (0 ∷ []) (0 ∷ []) ws m memo a b r
-    → (r ≡ true) ↔ Equal noImage (nestedTree left depth) (nestedTree right depth)
-equal-gives left right depth n m ws₀ ws₁ ws memo a b r x y g =
-    let ta : treeOf (cellsOf m ws) a ≡ nestedTree left depth = y .older a (x .placed) .tree ∙ x .tree in
-    let e : r ≡ equal trees noImage m (nestedTree left depth) (nestedTree right depth) =
-    g .trees noImage no-tables ∙ ap (λ (t : Value). equal trees noImage m t (treeOf (cellsOf m ws) b)) ta ∙ ap (λ (t : Value). equal trees noImage m (nestedTree left depth) t) (y .tree)
+pub equal-gives : (left left′ right right′ : Number) (depth n m : ℕ) (ws₀ ws₁ ws : List ℕ) (memo : List ℕ) (a b : VmValue) (r : Bool)
+    → NestedAt left left′ depth 0 ws₀ ws₁ a n → NestedAt right right′ depth n ws₁ ws b m → EqualGives (0 ∷ []) (0 ∷ []) ws m memo a b r
+    → (r ≡ true) ↔ Equal noImage (lastTree left left′ depth) (lastTree right right′ depth)
+equal-gives left left′ right right′ depth n m ws₀ ws₁ ws memo a b r x y g =
+    let ta : treeOf (cellsOf m ws) a ≡ lastTree left left′ depth = y .older a (x .placed) .tree ∙ x .tree in
+    let e : r ≡ equal trees noImage m (lastTree left left′ depth) (lastTree right right′ depth) =
+    g .trees noImage no-tables ∙ ap (λ (t : Value). equal trees noImage m t (treeOf (cellsOf m ws) b)) ta ∙ ap (λ (t : Value). equal trees noImage m (lastTree left left′ depth) t) (y .tree)
     in
     ((λ q. equal-decided noImage m _ _ .0 (sym e ∙ q)), (λ q. e ∙ equal-decided noImage m _ _ .1 q))
 
-pub code-asks : (leaf : Number) (depth n : ℕ) (ws₀ ws : List ℕ) (v : VmValue) → NestedAt leaf depth 0 ws₀ ws v n → Held ws n v
-code-asks leaf depth n ws₀ ws v x = record { room = omega (arith, x .asks .few, x .asks .words); formed = x .asks .formed; placed = x .placed }
+pub code-asks : (leaf last : Number) (depth n : ℕ) (ws₀ ws : List ℕ) (v : VmValue) → NestedAt leaf last depth 0 ws₀ ws v n → Held ws n v
+code-asks leaf last depth n ws₀ ws v x = record { room = omega (arith, x .asks .few, x .asks .words); formed = x .asks .formed; placed = x .placed }
 
-pub code-gives : (leaf : Number) (depth n : ℕ) (ws₀ ws : List ℕ) (v : VmValue) (l l′ : List ℕ) (r : Coded) → NestedAt leaf depth 0 ws₀ ws v n → CodeGives ws n v l l′ r → CodedGives leaf depth l l′ r
-code-gives leaf depth n ws₀ ws v l l′ r x g =
-    let e : codeOf ws n v ≡ coded trees n (nestedTree leaf depth) = ap (coded trees n) (x .tree) in
+pub code-gives : (leaf last : Number) (depth n : ℕ) (ws₀ ws : List ℕ) (v : VmValue) (l l′ : List ℕ) (r : Coded) → NestedAt leaf last depth 0 ws₀ ws v n → CodeGives ws n v l l′ r → CodedGives leaf last depth l l′ r
+code-gives leaf last depth n ws₀ ws v l l′ r x g =
+    let e : codeOf ws n v ≡ coded trees n (lastTree leaf last depth) = ap (coded trees n) (x .tree) in
     done n (g .answer ∙ ap (λ (bs : List ℕ). codedAnswer (leb (length bs) (length l)) bs) e) (g .out ∙ ap (λ (bs : List ℕ). codedOut (leb (length bs) (length l)) bs l) e)
 
 -- ---- clearing

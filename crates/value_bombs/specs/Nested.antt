@@ -1,9 +1,9 @@
--- Numbers under arrays [x, x].
+-- Trees of arrays of two whose leaves are all the same number, or all but the last one.
 use mathlib.Core.Path.{_≡_}
 use mathlib.Core.Logic.{_↔_, _⊎_}
 use mathlib.Core.Bool.{Bool, true}
-use mathlib.Core.List.{List, []}
-use Prim.Native.Nat.{ℕ, zero, suc, _≤_}
+use mathlib.Core.List.{List, [], _∷_}
+use Prim.Native.Nat.{ℕ, zero, suc, _+_, _≤_}
 use lib.Dec.{leb}
 use lib.ListN.{length}
 use Rattle.numbers.specs.declared.Number.{Number}
@@ -13,20 +13,29 @@ use Rattle.definition.specs.Trees.{trees}
 use Rattle.definition.specs.Equality.{Equal}
 use Rattle.definition.specs.Coding.{coded}
 use Rattle.values.specs.declared.VmValue.{VmValue}
+use Rattle.values.specs.declared.Built.the-variants as built
 use Rattle.values.specs.declared.Coded.{Coded}
 use Rattle.values.specs.declared.Coded.the-variants.{TooLong}
 use Rattle.values.specs.Words.{Fit}
 use Rattle.values.specs.Cells.{cellsOf, treeOf, Placed, WellFormed}
+use Rattle.values.specs.Building.{Builds}
 use Rattle.values.specs.Coding.{codedAnswer, codedOut}
+use Rattle.value_bombs.specs.declared.Grown.{Grown}
+use Rattle.value_bombs.specs.declared.Grown.the-variants as grown
 use Rattle.value_bombs.specs.declared.Nested.{Nested}
 use Rattle.value_bombs.specs.declared.Nested.the-variants.{At, NotBuilt}
 use Rattle.value_bombs.specs.declared.Compared.{Compared}
 use Rattle.value_bombs.specs.declared.Compared.the-variants as compared
 
--- the tree: a number, under so many arrays of two
+-- all leaves the same: a number, under so many arrays of two
 unfoldable pub nestedTree : Number → ℕ → Value
 nestedTree n zero = node (num n) none
 nestedTree n (suc d) = node arr (more (nestedTree n d) (more (nestedTree n d) none))
+
+-- the same but for the last of the leaves
+unfoldable pub lastTree : Number → Number → ℕ → Value
+lastTree n m zero = node (num m) none
+lastTree n m (suc d) = node arr (more (nestedTree n d) (more (lastTree n m d) none))
 
 -- no texts and no chunks
 abbrev pub noImage : Image
@@ -42,24 +51,35 @@ pub record Stays (ws ws′ : List ℕ) (n n′ : ℕ) (u : VmValue) : Type 0 whe
   pub placed : Placed (cellsOf n′ ws′) n′ u
   pub tree : treeOf (cellsOf n′ ws′) u ≡ treeOf (cellsOf n ws) u
 
-pub record NestedAt (leaf : Number) (depth n : ℕ) (ws ws′ : List ℕ) (v : VmValue) (n′ : ℕ) : Type 0 where
+-- [x, y] was built, then [x, x]
+pub record Grows (x y : VmValue) (n : ℕ) (ws ws′ : List ℕ) (v w : VmValue) : Type 0 where
+  pub between : List ℕ
+  pub between-length : length between ≡ length ws
+  pub path : Builds arr (x ∷ y ∷ []) n ws between (built.Value v)
+  pub shared : Builds arr (x ∷ x ∷ []) (n + 2) between ws′ (built.Value w)
+
+abbrev pub GrownGives : VmValue → VmValue → ℕ → List ℕ → List ℕ → Grown → Type 0
+GrownGives x y n ws ws′ (grown.Both v w) = Grows x y n ws ws′ v w
+GrownGives x y n ws ws′ grown.NotBuilt = Unit {0}
+
+pub record NestedAt (leaf last : Number) (depth n : ℕ) (ws ws′ : List ℕ) (v : VmValue) (n′ : ℕ) : Type 0 where
   pub asks : NestedAsks ws′ n′
   pub placed : Placed (cellsOf n′ ws′) n′ v
-  pub tree : treeOf (cellsOf n′ ws′) v ≡ nestedTree leaf depth
+  pub tree : treeOf (cellsOf n′ ws′) v ≡ lastTree leaf last depth
   pub fit : Fit v
   pub older : (u : VmValue) → Placed (cellsOf n ws) n u → Stays ws ws′ n n′ u
 
-abbrev pub NestedGives : Number → ℕ → ℕ → List ℕ → List ℕ → Nested → Type 0
-NestedGives leaf depth n ws ws′ (At v n′) = NestedAt leaf depth n ws ws′ v n′
-NestedGives leaf depth n ws ws′ NotBuilt = Unit {0}
+abbrev pub NestedGives : Number → Number → ℕ → ℕ → List ℕ → List ℕ → Nested → Type 0
+NestedGives leaf last depth n ws ws′ (At v n′) = NestedAt leaf last depth n ws ws′ v n′
+NestedGives leaf last depth n ws ws′ NotBuilt = Unit {0}
 
 -- the answer is whether the trees are equal
-abbrev pub ComparedGives : Number → Number → ℕ → Compared → Type 0
-ComparedGives a b depth (compared.Answer r) = (r ≡ true) ↔ Equal noImage (nestedTree a depth) (nestedTree b depth)
-ComparedGives a b depth compared.NotBuilt = Unit {0}
+abbrev pub ComparedGives : Number → Number → Number → Number → ℕ → Compared → Type 0
+ComparedGives a a′ b b′ depth (compared.Answer r) = (r ≡ true) ↔ Equal noImage (lastTree a a′ depth) (lastTree b b′ depth)
+ComparedGives a a′ b b′ depth compared.NotBuilt = Unit {0}
 
 -- the bytes of the tree where they fit, and nothing else; or nothing at all
-pub data CodedGives (leaf : Number) (depth : ℕ) (l l′ : List ℕ) (r : Coded) : Type 0 where
-  done : (n : ℕ) → r ≡ codedAnswer (leb (length (coded trees n (nestedTree leaf depth))) (length l)) (coded trees n (nestedTree leaf depth))
-      → l′ ≡ codedOut (leb (length (coded trees n (nestedTree leaf depth))) (length l)) (coded trees n (nestedTree leaf depth)) l → CodedGives leaf depth l l′ r
-  not-built : r ≡ TooLong → l′ ≡ l → CodedGives leaf depth l l′ r
+pub data CodedGives (leaf last : Number) (depth : ℕ) (l l′ : List ℕ) (r : Coded) : Type 0 where
+  done : (n : ℕ) → r ≡ codedAnswer (leb (length (coded trees n (lastTree leaf last depth))) (length l)) (coded trees n (lastTree leaf last depth))
+      → l′ ≡ codedOut (leb (length (coded trees n (lastTree leaf last depth))) (length l)) (coded trees n (lastTree leaf last depth)) l → CodedGives leaf last depth l l′ r
+  not-built : r ≡ TooLong → l′ ≡ l → CodedGives leaf last depth l l′ r

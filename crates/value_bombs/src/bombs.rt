@@ -7,49 +7,66 @@ ghost use lib.ListN.{length, replicate};
 ghost use Rattle.definition.specs.Value.{arr};
 ghost use Rattle.values.specs.Words.{Fit};
 ghost use Rattle.values.specs.Building.{Builds};
-ghost use Rattle.value_bombs.specs.Nested.{NestedAsks, NestedGives, ComparedGives, CodedGives};
+ghost use Rattle.value_bombs.specs.Nested.{NestedAsks, GrownGives, NestedGives, ComparedGives, CodedGives};
 use super::Compared;
+use super::Grown;
 use super::Nested;
 use numbers::Number;
 use values::Built;
 use values::Coded;
 use values::VmValue;
 
-// The value [x, x].
-fn double(cells: &mut [u64], nc: usize, x: VmValue) -> Built
-    requires { ⌜ (8192 ≤ length (now cells)) × (nc ≤ 4096) × Fit x ⌝ }
-    ensures { λ r. ⌜ Builds arr (x ∷ x ∷ []) nc (now (cells .entry)) (now (cells .exit)) r ⌝ }
+// The value [x, y].
+fn pair(cells: &mut [u64], nc: usize, x: VmValue, y: VmValue) -> Built
+    requires { ⌜ (8192 ≤ length (now cells)) × (nc ≤ 4096) × Fit x × Fit y ⌝ }
+    ensures { λ r. ⌜ Builds arr (x ∷ y ∷ []) nc (now (cells .entry)) (now (cells .exit)) r ⌝ }
 {
-    let mut pair = [0u64; 4];
-    values::store_value(&mut pair, 0, x);
-    values::store_value(&mut pair, 1, x);
-    values::build_arr(&pair, 0, 2, cells, nc)
+    let mut parts = [0u64; 4];
+    values::store_value(&mut parts, 0, x);
+    values::store_value(&mut parts, 1, y);
+    values::build_arr(&parts, 0, 2, cells, nc)
 }
 
-// A number under so many arrays [x, x], behind the nc cells that are taken.
-fn nest(cells: &mut [u64], nc: usize, leaf: Number, depth: usize) -> Nested
+// The values [x, y] and [x, x].
+fn grow(cells: &mut [u64], nc: usize, x: VmValue, y: VmValue) -> Grown
+    requires { ⌜ (8192 ≤ length (now cells)) × (nc ≤ 4096) × Fit x × Fit y ⌝ }
+    ensures { λ r. ⌜ GrownGives x y nc (now (cells .entry)) (now (cells .exit)) r ⌝ }
+{
+    match pair(cells, nc, x, y) {
+        Built::Value(v) => match pair(cells, nc + 2, x, x) {
+            Built::Value(w) => Grown::Both(v, w),
+            Built::NoRoom => Grown::NotBuilt,
+            Built::TooDeep => Grown::NotBuilt,
+        },
+        Built::NoRoom => Grown::NotBuilt,
+        Built::TooDeep => Grown::NotBuilt,
+    }
+}
+
+// A tree of so many arrays of two, behind the nc cells that are taken. Its leaves are all the same number but for the last one: the first
+// part of each array is x, whose parts are all shared, and the second part is y, which has the last leaf.
+fn nest(cells: &mut [u64], nc: usize, leaf: Number, last: Number, depth: usize) -> Nested
     requires { ⌜ NestedAsks (now cells) nc ⌝ }
-    ensures { λ r. ⌜ NestedGives leaf depth nc (now (cells .entry)) (now (cells .exit)) r ⌝ }
+    ensures { λ r. ⌜ NestedGives leaf last depth nc (now (cells .entry)) (now (cells .exit)) r ⌝ }
 {
     let mut x = VmValue::Num(leaf);
+    let mut y = VmValue::Num(last);
     let mut n = nc;
     let mut i = 0;
     while i < depth {
-        match double(cells, n, x) {
-            Built::Value(v) => {
-                x = v;
-                n += 2;
+        match grow(cells, n, x, y) {
+            Grown::Both(v, w) => {
+                y = v;
+                x = w;
+                n += 4;
             }
-            Built::NoRoom => {
-                return Nested::NotBuilt;
-            }
-            Built::TooDeep => {
+            Grown::NotBuilt => {
                 return Nested::NotBuilt;
             }
         }
         i += 1;
     }
-    Nested::At(x, n)
+    Nested::At(y, n)
 }
 
 fn clear(memo: &mut [u64])
@@ -62,15 +79,17 @@ fn clear(memo: &mut [u64])
     }
 }
 
-// Two numbers, each under so many arrays [x, x], compared.
+// Two such trees compared.
 pub fn compare_nested(
     left: Number,
+    left_last: Number,
     right: Number,
+    right_last: Number,
     depth: usize,
     cells: &mut [u64],
     memo: &mut [u64],
 ) -> Compared
-    ensures { λ r. ⌜ ComparedGives left right depth r ⌝ }
+    ensures { λ r. ⌜ ComparedGives left «left_last» right «right_last» depth r ⌝ }
 {
     if cells.len() < 8192 {
         return Compared::NotBuilt;
@@ -79,8 +98,8 @@ pub fn compare_nested(
         return Compared::NotBuilt;
     }
     clear(memo);
-    match nest(cells, 0, left, depth) {
-        Nested::At(a, n) => match nest(cells, n, right, depth) {
+    match nest(cells, 0, left, left_last, depth) {
+        Nested::At(a, n) => match nest(cells, n, right, right_last, depth) {
             Nested::At(b, m) => {
                 let texts = [0u64; 1];
                 let chunks = [0u64; 1];
@@ -92,14 +111,20 @@ pub fn compare_nested(
     }
 }
 
-// A number under so many arrays [x, x], coded.
-pub fn code_nested(leaf: Number, depth: usize, cells: &mut [u64], out: &mut [u8]) -> Coded
-    ensures { λ r. ⌜ CodedGives leaf depth (now (out .entry)) (now (out .exit)) r ⌝ }
+// Such a tree coded.
+pub fn code_nested(
+    leaf: Number,
+    last: Number,
+    depth: usize,
+    cells: &mut [u64],
+    out: &mut [u8],
+) -> Coded
+    ensures { λ r. ⌜ CodedGives leaf last depth (now (out .entry)) (now (out .exit)) r ⌝ }
 {
     if cells.len() < 8192 {
         return Coded::TooLong;
     }
-    match nest(cells, 0, leaf, depth) {
+    match nest(cells, 0, leaf, last, depth) {
         Nested::At(a, n) => values::code_value(cells, n, a, out),
         Nested::NotBuilt => Coded::TooLong,
     }

@@ -1,5 +1,5 @@
-// Arrays [x, x] nested 64 deep: 128 cells whose tree has 2^64 leaves. Each line is answered at once, because equality looks at no pair of
-// cells twice and coding stops where the slice is full.
+// Arrays of two nested 64 deep: 256 cells whose tree has 2^64 leaves, all the same number or all but one. Each line is answered at once,
+// because equality looks at no pair of cells twice and coding stops where the slice is full.
 mod bombs;
 
 pub use bombs::code_nested;
@@ -8,6 +8,12 @@ use libc::STDOUT_FILENO;
 use numbers::Number;
 use values::Coded;
 use values::VmValue;
+
+// The two values of the next level; or there was no room.
+pub enum Grown {
+    Both(VmValue, VmValue),
+    NotBuilt,
+}
 
 // A nested value, and how many cells are taken with it; or there was no room.
 pub enum Nested {
@@ -47,26 +53,39 @@ fn say_coded(c: Coded) {
     }
 }
 
+// Two trees with 2^64 leaves compared.
+fn compare(
+    left: Number,
+    left_last: Number,
+    right: Number,
+    right_last: Number,
+    cells: &mut [u64],
+    memo: &mut [u64],
+) {
+    say_compared(compare_nested(left, left_last, right, right_last, 64, cells, memo));
+}
+
 fn main() {
     let mut cells = [0u64; 8192];
     let mut memo = [0u64; 4096];
     let mut out = [0u8; 4096];
-    say_compared(compare_nested(Number::Int(1), Number::Int(1), 64, &mut cells, &mut memo));
-    say_compared(compare_nested(Number::Int(1), Number::Int(2), 64, &mut cells, &mut memo));
-    say_compared(compare_nested(
-        Number::Float(0.0 / 0.0),
-        Number::Float(0.0 / 0.0),
-        64,
-        &mut cells,
-        &mut memo,
-    ));
-    say_compared(compare_nested(
-        Number::Float(0.0),
-        Number::Float(-0.0),
-        64,
-        &mut cells,
-        &mut memo,
-    ));
-    say_coded(code_nested(Number::Int(1), 64, &mut cells, &mut out));
-    say_coded(code_nested(Number::Int(1), 8, &mut cells, &mut out));
+    let one = Number::Int(1);
+    let two = Number::Int(2);
+    let zero = Number::Float(0.0);
+    let minus_zero = Number::Float(-0.0);
+    let nan = Number::Float(0.0 / 0.0);
+    // equal in every leaf; unequal in every leaf; unequal in the last leaf alone
+    compare(one, one, one, one, &mut cells, &mut memo);
+    compare(one, one, two, two, &mut cells, &mut memo);
+    compare(one, one, one, two, &mut cells, &mut memo);
+    // a NaN in every leaf; in the last leaf alone; on one side alone
+    compare(nan, nan, nan, nan, &mut cells, &mut memo);
+    compare(zero, nan, zero, nan, &mut cells, &mut memo);
+    compare(zero, zero, zero, nan, &mut cells, &mut memo);
+    // zeros of both signs, in every leaf and in the last leaf alone
+    compare(zero, zero, minus_zero, minus_zero, &mut cells, &mut memo);
+    compare(zero, zero, zero, minus_zero, &mut cells, &mut memo);
+    say_coded(code_nested(one, one, 64, &mut cells, &mut out));
+    say_coded(code_nested(one, two, 64, &mut cells, &mut out));
+    say_coded(code_nested(one, two, 8, &mut cells, &mut out));
 }

@@ -1,11 +1,21 @@
--- `number_bench::bench_cast` meets its contract: the turns left fall. Assumes nothing.
+-- `number_bench::bench_cast` meets its contract: after i turns the definition has the number at hand. Assumes nothing.
 use borrow.Author.Needs.{needs}
-use Prim.Native.Nat.{_≤_, _-_}
+use mathlib.Core.Path.{_≡_, refl, sym, ap, _∙_}
+use native.Mathlib.Omega.{arith}
+use Prim.Native.Nat.{ℕ, _+_, _-_, _≤_, _<_}
+use Rattle.number_bench.specs.Turns.{steps, thereAndBack}
+use Rattle.number_bench.proofs.Loops.{no-step, next-step, gone-and-back, all-cast}
 use Rattle.number_bench.proofs.bench_cast.Statement.{statement}
 use Rattle.number_bench.proofs.bench_cast.Tie as tie
+use Rattle.number_bench.proofs.bench_cast.Reads as reads
+use Rattle.number_bench.proofs.bench_cast.Lts as lts
+use Rattle.number_bench.proofs.number.Reads as number-reads
+use Rattle.number_bench.proofs.value_or.Reads as value-or-reads
+use Rattle.number_codes.proofs.payload_of.Reads as payload-of-reads
+use Rattle.numbers.proofs.cast.Reads as cast-reads
 
 abbrev Inv-loop : tie.InvT-loop
-Inv-loop n kind first last i₀ acc₀ i acc = i ≤ n
+Inv-loop n kind first last i₀ acc₀ i acc = (i ≤ n) × (steps thereAndBack i acc₀ ≡ acc)
 
 abbrev μ-loop : tie.MeasureT-loop
 μ-loop n kind first last i₀ acc₀ i acc = n - i
@@ -14,7 +24,7 @@ number-requires : tie.Need-number-requires Inv-loop μ-loop
 number-requires c κs = search needs
 
 loop-holds : tie.Need-loop-holds Inv-loop μ-loop
-loop-holds c = search needs
+loop-holds c = (omega arith, no-step _ _)
 
 cast-requires : tie.Need-cast-requires Inv-loop μ-loop
 cast-requires c κs = search needs
@@ -29,19 +39,19 @@ value-or-requires-2 : tie.Need-value-or-requires-2 Inv-loop μ-loop
 value-or-requires-2 c κs = search needs
 
 add-i : tie.Need-add-i Inv-loop μ-loop
-add-i c = search needs
+add-i c = omega (arith, (c .before .before .before .before .loop-test .taken), (c .before .before .before .before .before .before .before .fits .n .fits))
 
 loop-less : tie.Need-loop-less Inv-loop μ-loop
-loop-less c = search needs
+loop-less c = omega (arith, (c .before .before .before .before .loop-test .taken))
 
 loop-again : tie.Need-loop-again Inv-loop μ-loop
-loop-again c = search needs
+loop-again c = (omega (arith, (c .before .before .before .before .loop-test .taken)), next-step _ (c .before .before .before .before .before .loop .i) _ (c .before .before .before .before .before .loop .acc) _ ((c .before .before .before .before .before .loop .inv) .1) (gone-and-back (c .before .before .before .before .before .loop .acc) (c .before .before .before .cast .ensures) (c .before .before .value-or .ensures) (c .before .cast2 .ensures) (c .value-or2 .ensures)))
 
 payload-of-requires : tie.Need-payload-of-requires Inv-loop μ-loop
 payload-of-requires c κs = search needs
 
 returns : tie.Need-returns Inv-loop μ-loop
-returns c = search needs
+returns c = let e : (c .before .before .loop .i) ≡ (c .before .before .before .before .args .n) = omega (arith, (c .before .loop-test .left), (c .before .before .loop .inv) .0) in (e, all-cast (c .before .before .before .before .args .n) (c .before .before .loop .i) _ _ (c .before .before .loop .acc) (c .before .before .before .number .ensures) e ((c .before .before .loop .inv) .1) (c .payload-of .ensures))
 
 pub bench-cast-spec : {M : Type 1} → statement M
 bench-cast-spec =

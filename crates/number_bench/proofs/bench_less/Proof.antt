@@ -1,11 +1,21 @@
--- `number_bench::bench_less` meets its contract: the turns left fall. Assumes nothing.
+-- `number_bench::bench_less` meets its contract: after i turns the count is the definition's. Assumes nothing.
 use borrow.Author.Needs.{needs}
-use Prim.Native.Nat.{_≤_, _-_}
+use mathlib.Core.Path.{_≡_, refl, sym, ap, _∙_}
+use native.Mathlib.Omega.{arith}
+use Prim.Native.Nat.{ℕ, _+_, _-_, _≤_, _<_}
+use Rattle.number_bench.specs.Turns.{steps, countOn}
+use Rattle.number_bench.proofs.Loops.{no-step, next-step, counted, all-counted}
 use Rattle.number_bench.proofs.bench_less.Statement.{statement}
 use Rattle.number_bench.proofs.bench_less.Tie as tie
+use Rattle.number_bench.proofs.bench_less.Reads as reads
+use Rattle.number_bench.proofs.bench_less.Lts as lts
+use Rattle.number_bench.proofs.number.Reads as number-reads
+use Rattle.number_bench.proofs.pace.Reads as pace-reads
+use Rattle.numbers.proofs.less.Reads as less-reads
+use Rattle.std.proofs.num.wrapping_add_u64.Reads as wrapping-add-u64-reads
 
 abbrev Inv-loop : tie.InvT-loop
-Inv-loop n kind second last i₀ acc₀ bound i acc = i ≤ n
+Inv-loop n kind second last i₀ acc₀ bound i acc = (i ≤ n) × (steps (countOn kind bound) i acc₀ ≡ acc)
 
 abbrev μ-loop : tie.MeasureT-loop
 μ-loop n kind second last i₀ acc₀ bound i acc = n - i
@@ -14,7 +24,7 @@ number-requires : tie.Need-number-requires Inv-loop μ-loop
 number-requires c κs = search needs
 
 loop-holds : tie.Need-loop-holds Inv-loop μ-loop
-loop-holds c = search needs
+loop-holds c = (omega arith, no-step _ _)
 
 number-requires-2 : tie.Need-number-requires-2 Inv-loop μ-loop
 number-requires-2 c κs = search needs
@@ -22,26 +32,23 @@ number-requires-2 c κs = search needs
 less-requires : tie.Need-less-requires Inv-loop μ-loop
 less-requires c κs = search needs
 
-holds-requires : tie.Need-holds-requires Inv-loop μ-loop
-holds-requires c κs = search needs
+pace-requires : tie.Need-pace-requires Inv-loop μ-loop
+pace-requires c κs = search needs
 
 wrapping-add-u64-requires : tie.Need-wrapping-add-u64-requires Inv-loop μ-loop
 wrapping-add-u64-requires c κs = search needs
 
-wrapping-add-u64-requires-2 : tie.Need-wrapping-add-u64-requires-2 Inv-loop μ-loop
-wrapping-add-u64-requires-2 c κs = search needs
-
 add-i : tie.Need-add-i Inv-loop μ-loop
-add-i c = search needs
+add-i c = omega (arith, (c .before .before .before .before .loop-test .taken), (c .before .before .before .before .before .before .before .before .fits .n .fits))
 
 loop-less : tie.Need-loop-less Inv-loop μ-loop
-loop-less c = search needs
+loop-less c = omega (arith, (c .before .before .before .before .loop-test .taken))
 
 loop-again : tie.Need-loop-again Inv-loop μ-loop
-loop-again c = search needs
+loop-again c = (omega (arith, (c .before .before .before .before .loop-test .taken)), next-step _ (c .before .before .before .before .before .loop .i) _ (c .before .before .before .before .before .loop .acc) _ ((c .before .before .before .before .before .loop .inv) .1) (counted (c .before .before .before .before .before .before .before .before .args .kind) (c .before .before .before .before .before .before .number .result) (c .before .before .before .before .before .loop .acc) (c .before .before .before .number2 .ensures) (c .before .before .less .ensures) (c .before .pace .ensures) (c .wrapping-add-u64 .ensures)))
 
 returns : tie.Need-returns Inv-loop μ-loop
-returns c = search needs
+returns c = let e : (c .before .loop .i) ≡ (c .before .before .before .before .args .n) = omega (arith, (c .loop-test .left), (c .before .loop .inv) .0) in (e, all-counted (c .before .before .before .before .args .kind) (c .before .before .before .before .args .n) (c .before .loop .i) _ (c .before .loop .acc) (c .before .before .number .result) _ (c .before .before .number .ensures) e ((c .before .loop .inv) .1))
 
 pub bench-less-spec : {M : Type 1} → statement M
 bench-less-spec =
@@ -53,9 +60,8 @@ bench-less-spec =
     loop-holds
     number-requires-2
     less-requires
-    holds-requires
+    pace-requires
     wrapping-add-u64-requires
-    wrapping-add-u64-requires-2
     add-i
     loop-less
     loop-again

@@ -25,7 +25,7 @@ enum-known-a : tie.Need-enum-known-a
 enum-known-a c = search needs
 
 code-value-requires : tie.Need-code-value-requires
-code-value-requires c κs = code-asks (c .before .before .before .before .before .before .before .before .before .before .before .before .args .leaf) (c .before .before .before .before .before .before .before .before .before .before .before .before .args .depth) (c .before .before .before .a .given .0 .1 .0) (c .before .before .before .before .before .before .before .before .before .before .before .before .args .cells .now) (c .before .before .before .before .before .before .before .nest .last .0) (c .before .before .before .a .given .0 .0) (subst (λ (r : Nested). NestedGives (c .before .before .before .before .before .before .before .before .before .before .before .before .args .leaf) (c .before .before .before .before .before .before .before .before .before .before .before .before .args .depth) 0 (c .before .before .before .before .before .before .before .before .before .before .before .before .args .cells .now) (c .before .before .before .before .before .before .before .nest .last .0) r) (c .before .before .before .a .given .1) (c .before .before .before .before .before .before .before .nest .ensures))
+code-value-requires c κs = code-asks (c .before .before .before .before .before .before .before .before .before .before .before .before .args .leaf) (c .before .before .before .before .before .before .before .before .before .before .before .before .args .last) (c .before .before .before .before .before .before .before .before .before .before .before .before .args .depth) (c .before .before .before .a .given .0 .1 .0) (c .before .before .before .before .before .before .before .before .before .before .before .before .args .cells .now) (c .before .before .before .before .before .before .before .nest .last .0) (c .before .before .before .a .given .0 .0) (subst (λ (r : Nested). NestedGives (c .before .before .before .before .before .before .before .before .before .before .before .before .args .leaf) (c .before .before .before .before .before .before .before .before .before .before .before .before .args .last) (c .before .before .before .before .before .before .before .before .before .before .before .before .args .depth) 0 (c .before .before .before .before .before .before .before .before .before .before .before .before .args .cells .now) (c .before .before .before .before .before .before .before .nest .last .0) r) (c .before .before .before .a .given .1) (c .before .before .before .before .before .before .before .nest .ensures))
 
 enum-told : tie.Need-enum-told
 enum-told c = search needs
@@ -37,7 +37,7 @@ same-length-2 : tie.Need-same-length-2
 same-length-2 c = search needs
 
 returns-2 : tie.Need-returns-2
-returns-2 c = code-gives (c .before .before .before .before .before .before .before .before .before .before .before .before .before .before .before .args .leaf) (c .before .before .before .before .before .before .before .before .before .before .before .before .before .before .before .args .depth) (c .before .before .before .before .before .before .a .given .0 .1 .0) (c .before .before .before .before .before .before .before .before .before .before .before .before .before .before .before .args .cells .now) (c .before .before .before .before .before .before .before .before .before .before .nest .last .0) (c .before .before .before .before .before .before .a .given .0 .0) (c .before .before .before .before .before .before .before .before .before .before .before .before .before .before .before .args .out .now) _ (c .before .before .code-value .result) (subst (λ (r : Nested). NestedGives (c .before .before .before .before .before .before .before .before .before .before .before .before .before .before .before .args .leaf) (c .before .before .before .before .before .before .before .before .before .before .before .before .before .before .before .args .depth) 0 (c .before .before .before .before .before .before .before .before .before .before .before .before .before .before .before .args .cells .now) (c .before .before .before .before .before .before .before .before .before .before .nest .last .0) r) (c .before .before .before .before .before .before .a .given .1) (c .before .before .before .before .before .before .before .before .before .before .nest .ensures)) (c .before .before .code-value .ensures)
+returns-2 c = code-gives (c .before .before .before .before .before .before .before .before .before .before .before .before .before .before .before .args .leaf) (c .before .before .before .before .before .before .before .before .before .before .before .before .before .before .before .args .last) (c .before .before .before .before .before .before .before .before .before .before .before .before .before .before .before .args .depth) (c .before .before .before .before .before .before .a .given .0 .1 .0) (c .before .before .before .before .before .before .before .before .before .before .before .before .before .before .before .args .cells .now) (c .before .before .before .before .before .before .before .before .before .before .nest .last .0) (c .before .before .before .before .before .before .a .given .0 .0) (c .before .before .before .before .before .before .before .before .before .before .before .before .before .before .before .args .out .now) _ (c .before .before .code-value .result) (subst (λ (r : Nested). NestedGives (c .before .before .before .before .before .before .before .before .before .before .before .before .before .before .before .args .leaf) (c .before .before .before .before .before .before .before .before .before .before .before .before .before .before .before .args .last) (c .before .before .before .before .before .before .before .before .before .before .before .before .before .before .before .args .depth) 0 (c .before .before .before .before .before .before .before .before .before .before .before .before .before .before .before .args .cells .now) (c .before .before .before .before .before .before .before .before .before .before .nest .last .0) r) (c .before .before .before .before .before .before .a .given .1) (c .before .before .before .before .before .before .before .before .before .before .nest .ensures)) (c .before .before .code-value .ensures)
 
 same-length-3 : tie.Need-same-length-3
 same-length-3 c = search needs

@@ -1,61 +1,46 @@
-use Rattle.value_bombs.proofs.Nesting.{first-at, next-at}
-use Rattle.numbers.specs.declared.Number.{Number}
-use Rattle.values.specs.declared.VmValue.{VmValue}
-use Rattle.values.specs.declared.VmValue.the-variants.{Num}
-use mathlib.Core.List.{List, [], _∷_}
+-- `value_bombs::bombs::nest` meets its contract: each turn puts both values one array deeper. Assumes nothing.
 use mathlib.Core.Path.{_≡_, refl, sym, ap, _∙_, subst}
 use native.Mathlib.Omega.{arith}
-use Prim.Native.Nat.{ℕ, suc, _+_, _*_, _-_, _≤_, _<_}
-use lib.ListN.{length, getD, set, replicate, length-set}
+use Prim.Native.Nat.{ℕ, _+_, _-_, _≤_, _<_}
+use lib.ListN.{length}
 use borrow.Author.Needs.{needs}
-use Rattle.value_bombs.proofs.Nesting.{leaf-at, next-at}
-use Rattle.value_bombs.specs.Nested.{NestedAt}
-use Rattle.values.specs.declared.Built.{Built}
-use Rattle.values.specs.declared.Built.the-variants as built
-use Rattle.values.specs.Building.{Builds}
-use Rattle.definition.specs.Value.{arr}
-use mathlib.Core.List.{[], _∷_}
+use Rattle.numbers.specs.declared.Number.{Number}
+use Rattle.values.specs.declared.VmValue.the-variants.{Num}
+use Rattle.value_bombs.specs.declared.Grown.{Grown}
+use Rattle.value_bombs.specs.Nested.{GrownGives, NestedAt}
+use Rattle.value_bombs.proofs.Nesting.{Twins, first-twins, next-twins}
 use Rattle.value_bombs.proofs.bombs.nest.Statement.{statement}
 use Rattle.value_bombs.proofs.bombs.nest.Tie as tie
 use Rattle.value_bombs.proofs.bombs.nest.Reads as reads
 use Rattle.value_bombs.proofs.bombs.nest.Lts as lts
-use Rattle.value_bombs.proofs.bombs.double.Reads as double-reads
+use Rattle.value_bombs.proofs.bombs.grow.Reads as grow-reads
 
 abbrev Inv-loop : tie.InvT-loop
-Inv-loop cells₀ nc depth x₀ n₀ i₀ cells x n i = (i ≤ depth) × (length cells ≡ length cells₀) × ((leaf : Number) → x₀ ≡ Num leaf → NestedAt leaf i nc cells₀ cells x n)
+Inv-loop cells₀ nc depth x₀ y₀ n₀ i₀ cells x y n i = (i ≤ depth) × (length cells ≡ length cells₀) × ((leaf last : Number) → x₀ ≡ Num leaf → y₀ ≡ Num last → Twins leaf last i nc cells₀ cells x y n)
 
 abbrev μ-loop : tie.MeasureT-loop
-μ-loop cells₀ nc depth x₀ n₀ i₀ cells x n i = depth - i
+μ-loop cells₀ nc depth x₀ y₀ n₀ i₀ cells x y n i = depth - i
 
 loop-holds : tie.Need-loop-holds Inv-loop μ-loop
-loop-holds c = (omega arith, refl, λ l e. first-at (c .before .args .leaf) l (c .before .args .nc) (c .before .args .cells .now) (c .before .pre) e)
+loop-holds c = (omega arith, refl, λ l m e f. first-twins (c .before .args .leaf) (c .before .args .last) l m (c .before .args .nc) (c .before .args .cells .now) (c .before .pre) e f)
 
-double-requires : tie.Need-double-requires Inv-loop μ-loop
-double-requires c κs = (((c .before .before .loop .inv) .2 (c .before .before .before .before .args .leaf) refl) .asks .words, ((c .before .before .loop .inv) .2 (c .before .before .before .before .args .leaf) refl) .asks .few, ((c .before .before .loop .inv) .2 (c .before .before .before .before .args .leaf) refl) .fit)
+grow-requires : tie.Need-grow-requires Inv-loop μ-loop
+grow-requires c κs = let t = (c .before .before .loop .inv) .2 (c .before .before .before .before .args .leaf) (c .before .before .before .before .args .last) refl refl in (t .path .asks .words, t .path .asks .few, t .fit, t .path .fit)
 
 enum-known-v : tie.Need-enum-known-v Inv-loop μ-loop
 enum-known-v c = search needs
 
 add-n : tie.Need-add-n Inv-loop μ-loop
-add-n c = omega (arith, ((c .before .before .before .before .before .before .before .before .loop .inv) .2 (c .before .before .before .before .before .before .before .before .before .before .args .leaf) refl) .asks .few)
+add-n c = omega (arith, ((c .before .before .before .before .before .before .before .before .loop .inv) .2 (c .before .before .before .before .before .before .before .before .before .before .args .leaf) (c .before .before .before .before .before .before .before .before .before .before .args .last) refl refl) .path .asks .few)
 
 enum-told : tie.Need-enum-told Inv-loop μ-loop
 enum-told c = search needs
 
 same-length : tie.Need-same-length Inv-loop μ-loop
-same-length c = omega (arith, (c .before .before .before .before .double .kept) .0, (c .before .before .before .before .before .before .before .loop .inv) .1)
+same-length c = omega (arith, (c .before .before .before .before .grow .kept) .0, (c .before .before .before .before .before .before .before .loop .inv) .1)
 
 returns : tie.Need-returns Inv-loop μ-loop
 returns c = tt
-
-enum-told-2 : tie.Need-enum-told-2 Inv-loop μ-loop
-enum-told-2 c = search needs
-
-same-length-2 : tie.Need-same-length-2 Inv-loop μ-loop
-same-length-2 c = omega (arith, (c .before .before .before .before .double .kept) .0, (c .before .before .before .before .before .before .before .loop .inv) .1)
-
-returns-2 : tie.Need-returns-2 Inv-loop μ-loop
-returns-2 c = tt
 
 add-i : tie.Need-add-i Inv-loop μ-loop
 add-i c = let f = (c .before .before .before .before .before .before .before .before .before .before .fits .depth .fits) in omega (arith, (c .before .before .before .before .before .before .before .loop-test .taken))
@@ -64,13 +49,13 @@ loop-less : tie.Need-loop-less Inv-loop μ-loop
 loop-less c = omega (arith, (c .before .before .before .before .before .before .before .loop-test .taken))
 
 loop-again : tie.Need-loop-again Inv-loop μ-loop
-loop-again c = (omega (arith, (c .before .before .before .before .before .before .before .loop-test .taken)), (c .before .before .before .before .before .double .kept) .0 ∙ (c .before .before .before .before .before .before .before .before .loop .inv) .1, λ l e. next-at l (c .before .before .before .before .before .before .before .before .loop .i) (c .before .before .before .before .before .before .before .before .before .before .args .nc) (c .before .before .before .before .before .before .before .before .loop .n) (c .before .before .before .before .before .before .before .before .before .before .args .cells .now) (c .before .before .before .before .before .before .before .before .loop .cells) (c .before .before .before .before .before .double .last .0) (c .before .before .before .before .before .before .before .before .loop .x) (c .before .v .given .0 .0) ((c .before .before .before .before .before .before .before .before .loop .inv) .2 l e) ((c .before .before .before .before .before .double .kept) .0) (subst (λ (r : Built). Builds arr ((c .before .before .before .before .before .before .before .before .loop .x) ∷ (c .before .before .before .before .before .before .before .before .loop .x) ∷ []) (c .before .before .before .before .before .before .before .before .loop .n) (c .before .before .before .before .before .before .before .before .loop .cells) (c .before .before .before .before .before .double .last .0) r) (c .before .v .given .1) (c .before .before .before .before .before .double .ensures)))
+loop-again c = (omega (arith, (c .before .before .before .before .before .before .before .loop-test .taken)), (c .before .before .before .before .before .grow .kept) .0 ∙ (c .before .before .before .before .before .before .before .before .loop .inv) .1, λ l m e f. next-twins l m (c .before .before .before .before .before .before .before .before .loop .i) (c .before .before .before .before .before .before .before .before .before .before .args .nc) (c .before .before .before .before .before .before .before .before .loop .n) (c .before .before .before .before .before .before .before .before .before .before .args .cells .now) (c .before .before .before .before .before .before .before .before .loop .cells) (c .before .before .before .before .before .grow .last .0) (c .before .before .before .before .before .before .before .before .loop .x) (c .before .before .before .before .before .before .before .before .loop .y) (c .before .v .given .0 .0) (c .before .v .given .0 .1 .0) ((c .before .before .before .before .before .before .before .before .loop .inv) .2 l m e f) ((c .before .before .before .before .before .grow .kept) .0) (subst (λ (r : Grown). GrownGives (c .before .before .before .before .before .before .before .before .loop .x) (c .before .before .before .before .before .before .before .before .loop .y) (c .before .before .before .before .before .before .before .before .loop .n) (c .before .before .before .before .before .before .before .before .loop .cells) (c .before .before .before .before .before .grow .last .0) r) (c .before .v .given .1) (c .before .before .before .before .before .grow .ensures)))
 
-same-length-3 : tie.Need-same-length-3 Inv-loop μ-loop
-same-length-3 c = (c .before .loop .inv .1)
+same-length-2 : tie.Need-same-length-2 Inv-loop μ-loop
+same-length-2 c = (c .before .loop .inv) .1
 
-returns-3 : tie.Need-returns-3 Inv-loop μ-loop
-returns-3 c = let e : (c .before .loop .i) ≡ (c .before .before .before .args .depth) = omega (arith, (c .loop-test .left), (c .before .loop .inv) .0) in subst (λ (d : ℕ). NestedAt (c .before .before .before .args .leaf) d (c .before .before .before .args .nc) (c .before .before .before .args .cells .now) (c .before .loop .cells) (c .before .loop .x) (c .before .loop .n)) e ((c .before .loop .inv) .2 (c .before .before .before .args .leaf) refl)
+returns-2 : tie.Need-returns-2 Inv-loop μ-loop
+returns-2 c = let e : (c .before .loop .i) ≡ (c .before .before .before .args .depth) = omega (arith, (c .loop-test .left), (c .before .loop .inv) .0) in subst (λ (d : ℕ). NestedAt (c .before .before .before .args .leaf) (c .before .before .before .args .last) d (c .before .before .before .args .nc) (c .before .before .before .args .cells .now) (c .before .loop .cells) (c .before .loop .y) (c .before .loop .n)) e ((c .before .loop .inv) .2 (c .before .before .before .args .leaf) (c .before .before .before .args .last) refl refl .path)
 
 pub nest-spec : {M : Type 1} → statement M
 nest-spec =
@@ -79,17 +64,14 @@ nest-spec =
     Inv-loop
     μ-loop
     loop-holds
-    double-requires
+    grow-requires
     enum-known-v
     add-n
     enum-told
     same-length
     returns
-    enum-told-2
-    same-length-2
-    returns-2
     add-i
     loop-less
     loop-again
-    same-length-3
-    returns-3)
+    same-length-2
+    returns-2)

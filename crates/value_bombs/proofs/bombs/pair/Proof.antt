@@ -1,11 +1,11 @@
 use mathlib.Core.Path.{_≡_, refl, sym, ap, _∙_, subst}
 use native.Mathlib.Omega.{arith}
-use Rattle.value_bombs.proofs.Nesting.{doubled}
+use Rattle.value_bombs.proofs.Nesting.{paired}
 use borrow.Author.Needs.{needs}
-use Rattle.value_bombs.proofs.bombs.double.Statement.{statement}
-use Rattle.value_bombs.proofs.bombs.double.Tie as tie
-use Rattle.value_bombs.proofs.bombs.double.Reads as reads
-use Rattle.value_bombs.proofs.bombs.double.Lts as lts
+use Rattle.value_bombs.proofs.bombs.pair.Statement.{statement}
+use Rattle.value_bombs.proofs.bombs.pair.Tie as tie
+use Rattle.value_bombs.proofs.bombs.pair.Reads as reads
+use Rattle.value_bombs.proofs.bombs.pair.Lts as lts
 use Rattle.values.proofs.build_arr.Reads as build-arr-reads
 use Rattle.values.proofs.store_value.Reads as store-value-reads
 
@@ -31,10 +31,10 @@ same-length : tie.Need-same-length
 same-length c = search needs
 
 returns : tie.Need-returns
-returns c = doubled _ _ (c .before .before .before .before .before .before .before .before .before .before .before .before .args .x) (c .before .before .before .before .before .before .before .before .before .before .before .before .args .nc) (c .before .before .before .before .before .before .before .before .before .before .before .before .args .cells .now) _ (c .before .before .build-arr .result) (c .before .before .before .before .before .before .before .before .before .store-value .ensures) (c .before .before .before .before .before .before .store-value2 .ensures) (c .before .before .build-arr .ensures)
+returns c = paired _ _ (c .before .before .before .before .before .before .before .before .before .before .before .before .args .x) (c .before .before .before .before .before .before .before .before .before .before .before .before .args .y) (c .before .before .before .before .before .before .before .before .before .before .before .before .args .nc) (c .before .before .before .before .before .before .before .before .before .before .before .before .args .cells .now) _ (c .before .before .build-arr .result) (c .before .before .before .before .before .before .before .before .before .store-value .ensures) (c .before .before .before .before .before .before .store-value2 .ensures) (c .before .before .build-arr .ensures)
 
-pub double-spec : {M : Type 1} → statement M
-double-spec =
+pub pair-spec : {M : Type 1} → statement M
+pair-spec =
     tie.close
     (tie.spec
     slice-aggregate-store-value

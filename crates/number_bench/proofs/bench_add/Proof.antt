@@ -1,0 +1,74 @@
+-- `number_bench::bench_add` meets its contract: after i turns the definition has the number at hand. Assumes nothing.
+use borrow.Author.Needs.{needs}
+use mathlib.Core.Path.{_≡_, refl, sym, ap, _∙_}
+use native.Mathlib.Omega.{arith}
+use Prim.Native.Nat.{ℕ, _+_, _-_, _≤_, _<_}
+use Rattle.numbers.specs.declared.Number.{Number}
+use Rattle.numbers.specs.declared.NumberAnswer.the-variants.{Value}
+use Rattle.numbers.specs.Arithmetic.{addOf}
+use Rattle.number_bench.specs.Turns.{turns}
+use Rattle.number_bench.proofs.Loops.{no-turn, next-turn, all-turns, left-early}
+use Rattle.number_bench.proofs.bench_add.Statement.{statement}
+use Rattle.number_bench.proofs.bench_add.Tie as tie
+use Rattle.number_bench.proofs.bench_add.Reads as reads
+use Rattle.number_bench.proofs.bench_add.Lts as lts
+use Rattle.number_bench.proofs.number.Reads as number-reads
+use Rattle.number_codes.proofs.payload_of.Reads as payload-of-reads
+use Rattle.numbers.proofs.add.Reads as add-reads
+
+abbrev Inv-loop : tie.InvT-loop
+Inv-loop n kind first second last i₀ acc₀ operand i acc = (i ≤ n) × (turns (λ (x : Number). addOf x operand) i acc₀ ≡ Value acc)
+
+abbrev μ-loop : tie.MeasureT-loop
+μ-loop n kind first second last i₀ acc₀ operand i acc = n - i
+
+number-requires : tie.Need-number-requires Inv-loop μ-loop
+number-requires c κs = search needs
+
+number-requires-2 : tie.Need-number-requires-2 Inv-loop μ-loop
+number-requires-2 c κs = search needs
+
+loop-holds : tie.Need-loop-holds Inv-loop μ-loop
+loop-holds c = (omega arith, no-turn _ _)
+
+add-requires : tie.Need-add-requires Inv-loop μ-loop
+add-requires c κs = search needs
+
+enum-known-y : tie.Need-enum-known-y Inv-loop μ-loop
+enum-known-y c = search needs
+
+returns : tie.Need-returns Inv-loop μ-loop
+returns c = left-early (c .before .before .loop-test .taken)
+
+add-i : tie.Need-add-i Inv-loop μ-loop
+add-i c = omega (arith, (c .before .before .before .before .loop-test .taken), (c .before .before .before .before .before .before .before .before .fits .n .fits))
+
+loop-less : tie.Need-loop-less Inv-loop μ-loop
+loop-less c = omega (arith, (c .before .before .before .before .loop-test .taken))
+
+loop-again : tie.Need-loop-again Inv-loop μ-loop
+loop-again c = (omega (arith, (c .before .before .before .before .loop-test .taken)), next-turn _ (c .before .before .before .before .before .loop .i) _ (c .before .before .before .before .before .loop .acc) (c .before .y .given .0 .0) ((c .before .before .before .before .before .loop .inv) .1) (c .before .before .before .add .ensures) (c .before .y .given .1))
+
+payload-of-requires : tie.Need-payload-of-requires Inv-loop μ-loop
+payload-of-requires c κs = search needs
+
+returns-2 : tie.Need-returns-2 Inv-loop μ-loop
+returns-2 c = λ e. all-turns addOf (c .before .before .before .before .before .args .n) (c .before .before .loop .i) _ _ _ _ (c .before .before .loop .acc) (c .before .before .before .before .number .ensures) (c .before .before .before .number2 .ensures) e ((c .before .before .loop .inv) .1) (c .payload-of .ensures)
+
+pub bench-add-spec : {M : Type 1} → statement M
+bench-add-spec =
+    tie.close
+    (tie.spec
+    Inv-loop
+    μ-loop
+    number-requires
+    number-requires-2
+    loop-holds
+    add-requires
+    enum-known-y
+    returns
+    add-i
+    loop-less
+    loop-again
+    payload-of-requires
+    returns-2)

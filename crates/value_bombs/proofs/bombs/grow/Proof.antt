@@ -1,0 +1,96 @@
+-- `value_bombs::bombs::grow` meets its contract: one array, then the other. Assumes nothing.
+use mathlib.Core.Path.{_≡_, refl, sym, ap, _∙_, subst}
+use mathlib.Core.List.{List, [], _∷_}
+use native.Mathlib.Omega.{arith}
+use Prim.Native.Nat.{ℕ, _+_, _≤_}
+use Rattle.definition.specs.Value.{arr}
+use Rattle.values.specs.declared.Built.{Built}
+use Rattle.values.specs.Building.{Builds}
+use Rattle.value_bombs.specs.Nested.{Grows}
+use borrow.Author.Needs.{needs}
+use Rattle.value_bombs.proofs.bombs.grow.Statement.{statement}
+use Rattle.value_bombs.proofs.bombs.grow.Tie as tie
+use Rattle.value_bombs.proofs.bombs.grow.Reads as reads
+use Rattle.value_bombs.proofs.bombs.grow.Lts as lts
+use Rattle.value_bombs.proofs.bombs.pair.Reads as pair-reads
+
+pair-requires : tie.Need-pair-requires
+pair-requires c κs = search needs
+
+enum-known-v : tie.Need-enum-known-v
+enum-known-v c = search needs
+
+add-pair : tie.Need-add-pair
+add-pair c = search needs
+
+pair-requires-2 : tie.Need-pair-requires-2
+pair-requires-2 c κs = let same = (c .before .before .before .before .before .before .pair .kept) .0 in let room = (subst (λ (r : Built). Builds arr ((c .before .before .before .before .before .before .before .before .before .args .x) ∷ (c .before .before .before .before .before .before .before .before .before .args .y) ∷ []) (c .before .before .before .before .before .before .before .before .before .args .nc) (c .before .before .before .before .before .before .before .before .before .args .cells .now) (c .before .before .before .before .before .before .pair .last .0) r) (c .before .before .v .given .1) (c .before .before .before .before .before .before .pair .ensures)) .room in (omega (arith, (c .before .before .before .before .before .before .before .before .before .pre) .0), room, (c .before .before .before .before .before .before .before .before .before .pre) .2, (c .before .before .before .before .before .before .before .before .before .pre) .2)
+
+enum-known-w : tie.Need-enum-known-w
+enum-known-w c = search needs
+
+enum-told : tie.Need-enum-told
+enum-told c = search needs
+
+enum-told-2 : tie.Need-enum-told-2
+enum-told-2 c = search needs
+
+enum-told-3 : tie.Need-enum-told-3
+enum-told-3 c = search needs
+
+enum-told-4 : tie.Need-enum-told-4
+enum-told-4 c = search needs
+
+same-length : tie.Need-same-length
+same-length c = search needs
+
+returns : tie.Need-returns
+returns c = record { between = (c .before .before .before .before .before .before .before .before .before .before .before .before .pair .last .0); between-length = (c .before .before .before .before .before .before .before .before .before .before .before .before .pair .kept) .0; path = (subst (λ (r : Built). Builds arr ((c .before .before .before .before .before .before .before .before .before .before .before .before .before .before .before .args .x) ∷ (c .before .before .before .before .before .before .before .before .before .before .before .before .before .before .before .args .y) ∷ []) (c .before .before .before .before .before .before .before .before .before .before .before .before .before .before .before .args .nc) (c .before .before .before .before .before .before .before .before .before .before .before .before .before .before .before .args .cells .now) (c .before .before .before .before .before .before .before .before .before .before .before .before .pair .last .0) r) (c .before .before .before .before .before .before .before .before .v .given .1) (c .before .before .before .before .before .before .before .before .before .before .before .before .pair .ensures)); shared = subst (λ (r : Built). Builds arr ((c .before .before .before .before .before .before .before .before .before .before .before .before .before .before .before .args .x) ∷ (c .before .before .before .before .before .before .before .before .before .before .before .before .before .before .before .args .x) ∷ []) ((c .before .before .before .before .before .before .before .before .before .before .before .before .before .before .before .args .nc) + 2) (c .before .before .before .before .before .before .before .before .before .before .before .before .pair .last .0) (c .before .before .before .before .before .pair2 .last .0) r) (c .before .w .given .1) (c .before .before .before .before .before .pair2 .ensures) }
+
+same-length-2 : tie.Need-same-length-2
+same-length-2 c = search needs
+
+returns-2 : tie.Need-returns-2
+returns-2 c = search needs
+
+same-length-3 : tie.Need-same-length-3
+same-length-3 c = search needs
+
+returns-3 : tie.Need-returns-3
+returns-3 c = search needs
+
+same-length-4 : tie.Need-same-length-4
+same-length-4 c = search needs
+
+returns-4 : tie.Need-returns-4
+returns-4 c = search needs
+
+same-length-5 : tie.Need-same-length-5
+same-length-5 c = search needs
+
+returns-5 : tie.Need-returns-5
+returns-5 c = search needs
+
+pub grow-spec : {M : Type 1} → statement M
+grow-spec =
+    tie.close
+    (tie.spec
+    pair-requires
+    enum-known-v
+    add-pair
+    pair-requires-2
+    enum-known-w
+    enum-told
+    enum-told-2
+    enum-told-3
+    enum-told-4
+    same-length
+    returns
+    same-length-2
+    returns-2
+    same-length-3
+    returns-3
+    same-length-4
+    returns-4
+    same-length-5
+    returns-5)
