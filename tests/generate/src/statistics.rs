@@ -1,7 +1,7 @@
 //! How many cases met each instruction and each stop inside the domain.
 
 use image::INSTRUCTIONS;
-use model::{Answer, BUDGET, ROOM};
+use model::{Answer, BUDGET, Judged, ROOM, Refusal};
 use std::collections::BTreeMap;
 use std::fmt;
 
@@ -12,6 +12,8 @@ pub struct Statistics {
     pub refused: BTreeMap<u8, u64>,
     /// runs outside the domain
     pub outside: u64,
+    /// the same by the reason
+    pub reasons: BTreeMap<String, u64>,
     /// runs inside it that end in a value
     pub values: u64,
     /// runs inside it that end in a stop, by number
@@ -29,17 +31,24 @@ pub const STOPS: [u8; 13] = [30, 31, 32, 35, 36, 37, 38, 39, 40, 41, 42, 43, 44]
 impl Statistics {
     /// Counts one case in.
     pub fn add(&mut self, bytes: &[u8]) {
+        match model::load(bytes) {
+            Ok(image) => self.add_run(&model::judge(&image, BUDGET, ROOM)),
+            Err(refusal) => self.add_refusal(&refusal),
+        }
+    }
+
+    /// Counts in a case that load refuses.
+    pub fn add_refusal(&mut self, refusal: &Refusal) {
         self.cases += 1;
-        let image = match model::load(bytes) {
-            Ok(image) => image,
-            Err(refusal) => {
-                *self.refused.entry(refusal.number).or_default() += 1;
-                return;
-            }
-        };
-        let judged = model::judge(&image, BUDGET, ROOM);
-        if judged.outside.is_some() {
+        *self.refused.entry(refusal.number).or_default() += 1;
+    }
+
+    /// Counts in a run that is judged.
+    pub fn add_run(&mut self, judged: &Judged) {
+        self.cases += 1;
+        if let Some(why) = judged.outside {
             self.outside += 1;
+            *self.reasons.entry(why.to_string()).or_default() += 1;
             return;
         }
         match judged.answer {
@@ -83,6 +92,9 @@ impl fmt::Display for Statistics {
             writeln!(f, "  refused {number}: {times}")?;
         }
         writeln!(f, "outside the domain {}", self.outside)?;
+        for (why, times) in &self.reasons {
+            writeln!(f, "  {why}: {times}")?;
+        }
         writeln!(f, "inside: values {}, stops {stops}", self.values)?;
         for (number, times) in &self.stops {
             writeln!(f, "  stop {number}: {times}")?;

@@ -13,7 +13,8 @@ pub mod numbers;
 
 pub use child::serve_if_child;
 
-use model::{BUDGET, ROOM};
+use image::Image;
+use model::{BUDGET, Judged, ROOM, Refusal};
 
 /// The oracle's line for one image, without its line feed.
 pub fn answer(image: &[u8]) -> String {
@@ -24,22 +25,51 @@ pub fn answer(image: &[u8]) -> String {
 /// survives. A command that calls this begins with [`serve_if_child`], so that it can be started
 /// again as that process; a test needs the command `oracle` to be built.
 pub fn answers(images: &[Vec<u8>]) -> Vec<String> {
-    let judged: Vec<Question> = images.iter().map(|image| question(image)).collect();
+    let answered = answered(images).into_iter();
+    answered.map(|answered| answered.line).collect()
+}
+
+/// What the oracle says of an image.
+pub struct Answered {
+    /// the oracle's line
+    pub line: String,
+    /// what it rests on: the image as the model loads it and its judged run, or the refusal
+    pub judged: Result<(Image, Judged), Refusal>,
+}
+
+/// As [`answers`], with the model's judgement beside each line.
+pub fn answered(images: &[Vec<u8>]) -> Vec<Answered> {
+    let judged: Vec<_> = images.iter().map(|image| judge(image)).collect();
     let asked: Vec<&[u8]> = (images.iter().zip(&judged))
-        .filter(|(_, question)| question.outside.is_none())
+        .filter(|(_, judged)| is_inside(judged))
         .map(|(image, _)| image.as_slice())
         .collect();
     let mut replies = child::ask(&asked).into_iter();
-    judged
-        .into_iter()
-        .map(|question| match &question.outside {
-            Some(why) => format!("outside {}: {why}", question.line),
-            None => settle(
-                &question.line,
-                &replies.next().expect("a reply for each asked"),
-            ),
-        })
+    let line = |judged: &Result<(Image, Judged), Refusal>| match judged {
+        Err(refusal) => format!("outside {refusal}: it does not load"),
+        Ok((_, run)) => match run.outside {
+            Some(why) => format!("outside {}: {why}", run.answer),
+            None => {
+                let reply = replies.next().expect("a reply for each asked");
+                settle(&run.answer.to_string(), &reply)
+            }
+        },
+    };
+    let lines: Vec<String> = judged.iter().map(line).collect();
+    let together = lines.into_iter().zip(judged);
+    together
+        .map(|(line, judged)| Answered { line, judged })
         .collect()
+}
+
+fn judge(bytes: &[u8]) -> Result<(Image, Judged), Refusal> {
+    let image = model::load(bytes)?;
+    let judged = model::judge(&image, BUDGET, ROOM);
+    Ok((image, judged))
+}
+
+fn is_inside(judged: &Result<(Image, Judged), Refusal>) -> bool {
+    matches!(judged, Ok((_, run)) if run.outside.is_none())
 }
 
 /// What the published machine itself does with images that load, outside the domain too: the runner's
@@ -60,28 +90,6 @@ pub fn published_lines(images: &[Vec<u8>]) -> Vec<String> {
 /// Whether a line says that the model and the published machine differ.
 pub fn is_difference(line: &str) -> bool {
     line.starts_with("differs ")
-}
-
-/// What the model says of an image.
-struct Question {
-    line: String,
-    outside: Option<String>,
-}
-
-fn question(bytes: &[u8]) -> Question {
-    match model::load(bytes) {
-        Err(refusal) => Question {
-            line: refusal.to_string(),
-            outside: Some("it does not load".to_string()),
-        },
-        Ok(image) => {
-            let judged = model::judge(&image, BUDGET, ROOM);
-            Question {
-                line: judged.answer.to_string(),
-                outside: judged.outside.map(|why| why.to_string()),
-            }
-        }
-    }
 }
 
 /// The oracle's line for a run inside the domain.

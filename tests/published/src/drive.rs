@@ -197,30 +197,49 @@ fn f32_bits(f: f32) -> u32 {
     if f.is_nan() { 0x7FC0_0000 } else { f.to_bits() }
 }
 
-/// Runs an image on a fresh machine and says how it ended, in document 01's numbers.
-pub fn run(image: &Image, room: usize) -> Ending {
-    let (parts, top) = build(image);
-    match Vm::new().run_and_return(&top) {
-        Ok(value) => {
-            let mut coder = Coder {
-                parts: &parts,
-                room,
-                out: Vec::new(),
-            };
-            coder.value(&value);
-            if coder.out.len() > room {
-                Ending::TooLong
-            } else {
-                Ending::Value(coder.out)
-            }
-        }
-        Err(error) => match translate::messages::number(&error.message) {
-            Some(number) => Ending::Stop {
-                number,
-                chunk: error.span.chunk,
-                offset: error.span.offset,
-            },
-            None => Ending::Unmapped(error.message),
-        },
+/// An image built for the machine, to be run any number of times.
+pub struct Built {
+    parts: Parts,
+    top: Chunk,
+}
+
+impl Built {
+    pub fn new(image: &Image) -> Built {
+        let (parts, top) = build(image);
+        Built { parts, top }
     }
+
+    /// Runs it on a fresh machine and says how that ended, in document 01's numbers.
+    pub fn run(&self, room: usize) -> Ending {
+        match Vm::new().run_and_return(&self.top) {
+            Ok(value) => self.coded(&value, room),
+            Err(error) => match translate::messages::number(&error.message) {
+                Some(number) => Ending::Stop {
+                    number,
+                    chunk: error.span.chunk,
+                    offset: error.span.offset,
+                },
+                None => Ending::Unmapped(error.message),
+            },
+        }
+    }
+
+    fn coded(&self, value: &VmValue, room: usize) -> Ending {
+        let mut coder = Coder {
+            parts: &self.parts,
+            room,
+            out: Vec::new(),
+        };
+        coder.value(value);
+        if coder.out.len() > room {
+            Ending::TooLong
+        } else {
+            Ending::Value(coder.out)
+        }
+    }
+}
+
+/// Runs an image on a fresh machine and says how it ended.
+pub fn run(image: &Image, room: usize) -> Ending {
+    Built::new(image).run(room)
 }

@@ -33,6 +33,7 @@ pub mod native;
 pub mod runtime;
 
 pub use chunk::Chunk;
+pub use drive::Built;
 pub use values::{VmNative, VmValue};
 
 /// The bytes that are compiled as `chunk.rs`, `values.rs` and `vm_logic.rs`.

@@ -1,6 +1,7 @@
 //! The stored lists: which images are in them, and how they are written and read; and the example
 //! sheets.
 
+pub mod replay;
 mod select;
 pub mod sheets;
 mod text;

@@ -1,4 +1,5 @@
-//! Makes the stored lists, and the images and answers of the example sheets. `stored` writes them;
+//! Makes the stored lists, the list of the program `run_replay`, and the images and answers of the example
+//! sheets. `stored` writes them;
 //! `stored --check` makes them again and compares them with what is stored, byte for byte. Both say
 //! what the lists hold, and fail if an instruction or a stop that the domain can have is missing.
 
@@ -7,7 +8,7 @@ use std::collections::BTreeMap;
 use std::io::Write;
 use std::path::{Path, PathBuf};
 use std::process::ExitCode;
-use stored::{CASES, Entry, by_model, path, runs, sheets, written};
+use stored::{CASES, Entry, OUTSIDE, by_model, entries, path, replay, runs, sheets, written};
 
 /// A line of the report. Whether anyone reads it does not matter.
 macro_rules! say {
@@ -46,9 +47,17 @@ type Made = (PathBuf, String);
 /// Everything, made anew.
 fn made() -> Result<Vec<Made>, String> {
     let mut files = vec![(path(CASES), cases()?)];
+    let mut replayed = entries(&files[0].1);
     for (list, images, answer) in by_model() {
-        files.push((path(list), answered_by(list, images, answer)));
+        let text = answered_by(list, images, answer);
+        if list == OUTSIDE {
+            replayed.extend(entries(&text));
+        }
+        files.push((path(list), text));
     }
+    let text = replay::text(&replayed);
+    say!("run_replay: cases {}", entries(&text).len());
+    files.push((replay::file(), text));
     for name in sheets::names()? {
         let image = sheets::image(&name)?;
         let answer = answered(image.as_bytes(), oracle::answer(image.as_bytes()))?;

@@ -1,13 +1,13 @@
 //! The stored lists and sheets, replayed through the model.
 
 use generate::statistics::Statistics;
-use stored::{CASES, CHECKS, DAMAGED, Entry, by_model, entries, path, sheets, written};
+use stored::{CASES, CHECKS, DAMAGED, Entry, by_model, entries, path, replay, sheets, written};
 
 fn text(list: &str) -> String {
     std::fs::read_to_string(path(list)).unwrap_or_else(|error| panic!("{list}: {error}"))
 }
 
-fn replay(list: &str) -> Vec<Entry> {
+fn replayed(list: &str) -> Vec<Entry> {
     let entries = entries(&text(list));
     for Entry { image, answer } in &entries {
         let shown = String::from_utf8_lossy(image);
@@ -19,7 +19,7 @@ fn replay(list: &str) -> Vec<Entry> {
 /// The published machine's answers are the model's, and no instruction or stop is left out.
 #[test]
 fn cases() {
-    let entries = replay(CASES);
+    let entries = replayed(CASES);
     assert!(entries.len() >= 2_000, "{} cases", entries.len());
     let mut statistics = Statistics::default();
     entries
@@ -64,6 +64,22 @@ fn endings(list: &str) -> &'static [&'static str] {
             "stop 30 ", "stop 31 ", "stop 32 ", "stop 33 ", "stop 34 ", "stop 45 ", "stop 46 ",
             "stop 47 ",
         ],
+    }
+}
+
+/// The program's list has every ending that a run can have, and its answers are the model's.
+#[test]
+fn program_list() {
+    let list = std::fs::read_to_string(replay::file()).expect("the list is there");
+    assert!(list.len() < 1 << 19, "the program has room for it");
+    let mut endings = std::collections::BTreeSet::new();
+    for (budget, room, Entry { image, answer }) in replay::cases(&list) {
+        let image = model::load(&image).expect("a stored run loads");
+        assert_eq!(model::run(&image, budget, room).to_string(), answer);
+        endings.insert(answer.split(' ').take(2).collect::<Vec<_>>().join(" "));
+    }
+    for number in 30..=47 {
+        assert!(endings.contains(&format!("stop {number}")), "{number}");
     }
 }
 

@@ -1,0 +1,277 @@
+//! The images: loops of so many rounds, written in assembler text (tests/asm/README.md).
+
+/// A program: what it is heavy in, its text with `ROUNDS` for the rounds, and how many there are.
+pub struct Program {
+    pub name: &'static str,
+    text: &'static str,
+    rounds: u64,
+}
+
+impl Program {
+    /// The image lines.
+    pub fn image(&self) -> Vec<u8> {
+        let text = self.text.replace("ROUNDS", &self.rounds.to_string());
+        match asm::assemble(&text) {
+            Ok(image) => image.lines().into_bytes(),
+            Err(error) => panic!("{}: {error}", self.name),
+        }
+    }
+}
+
+pub const PROGRAMS: [Program; 5] = [
+    Program {
+        name: "Int arithmetic",
+        text: INTEGERS,
+        rounds: 530_000,
+    },
+    Program {
+        name: "Float arithmetic",
+        text: FLOATS,
+        rounds: 590_000,
+    },
+    Program {
+        name: "calls",
+        text: CALLS,
+        rounds: 400_000,
+    },
+    Program {
+        name: "closures and Propagate",
+        text: CLOSURES,
+        rounds: 450_000,
+    },
+    Program {
+        name: "arrays",
+        text: ARRAYS,
+        rounds: 400_000,
+    },
+];
+
+/// sum = sum + 3 * i - i, 19 instructions a round.
+const INTEGERS: &str = "
+chunk top/0
+  local sum = 0
+  local i = 1
+  PushScope
+  Const Int 0
+  DefineLocal sum
+  Const Int 0
+  DefineLocal i
+again:
+  GetLocal i
+  Const Int ROUNDS
+  Less
+  JumpIfFalse done
+  GetLocal sum
+  Const Int 3
+  GetLocal i
+  Mul
+  Add
+  GetLocal i
+  Sub
+  SetLocal sum
+  Pop
+  GetLocal i
+  Const Int 1
+  Add
+  SetLocal i
+  Pop
+  Loop again
+done:
+  GetLocal sum
+  Return
+";
+
+/// x = x * 0.5 + 1.25, 17 instructions a round.
+const FLOATS: &str = "
+chunk top/0
+  local x = 0
+  local i = 1
+  PushScope
+  Const Float 0.0
+  DefineLocal x
+  Const Int 0
+  DefineLocal i
+again:
+  GetLocal i
+  Const Int ROUNDS
+  Less
+  JumpIfFalse done
+  GetLocal x
+  Const Float 0.5
+  Mul
+  Const Float 1.25
+  Add
+  SetLocal x
+  Pop
+  GetLocal i
+  Const Int 1
+  Add
+  SetLocal i
+  Pop
+  Loop again
+done:
+  GetLocal x
+  Return
+";
+
+/// sum = step(sum, i), where step calls on; two calls and 25 instructions a round.
+const CALLS: &str = "
+chunk top/0
+  local sum = 0
+  local i = 1
+  PushScope
+  Const Int 0
+  DefineLocal sum
+  Const Int 0
+  DefineLocal i
+again:
+  GetLocal i
+  Const Int ROUNDS
+  Less
+  JumpIfFalse done
+  Const Function step
+  GetLocal sum
+  GetLocal i
+  Call 2
+  SetLocal sum
+  Pop
+  GetLocal i
+  Const Int 1
+  Add
+  SetLocal i
+  Pop
+  Loop again
+done:
+  GetLocal sum
+  Return
+
+chunk step/2
+  Const Function twice
+  GetLocal 1
+  Call 1
+  GetLocal 0
+  Add
+  Return
+
+chunk twice/1
+  GetLocal 0
+  GetLocal 0
+  Add
+  Return
+";
+
+/// A closure over the slots 2 and 3, built once and called in every round, with a Propagate that passes its
+/// value on; 22 instructions a round. An Ok in every round would take more cells than a run has.
+const CLOSURES: &str = "
+chunk top/0
+  local sum = 0
+  local i = 1
+  local closure = 4
+  PushScope
+  Const Int 0
+  DefineLocal sum
+  Const Int 0
+  DefineLocal i
+  Const Int 5
+  DefineLocal 2
+  Const Int 7
+  DefineLocal 3
+  BuildClosure Function step 2
+  DefineLocal closure
+again:
+  GetLocal i
+  Const Int ROUNDS
+  Less
+  JumpIfFalse done
+  GetLocal closure
+  GetLocal sum
+  Call 1
+  SetLocal sum
+  Pop
+  GetLocal i
+  Const Int 1
+  Add
+  SetLocal i
+  Pop
+  Loop again
+done:
+  GetLocal sum
+  Return
+
+chunk step/1
+  local argument = 4
+  GetLocal argument
+  GetLocal 2
+  Add
+  Propagate
+  GetLocal 3
+  Sub
+  Return
+";
+
+/// sum = sum + array[k], k going round an array of 16: Index, ArrLen and Eq; some 25 instructions a round.
+const ARRAYS: &str = "
+chunk top/0
+  local sum = 0
+  local i = 1
+  local k = 2
+  local array = 3
+  PushScope
+  Const Int 0
+  DefineLocal sum
+  Const Int 0
+  DefineLocal i
+  Const Int 0
+  DefineLocal k
+  Const Int 3
+  Const Int 1
+  Const Int 4
+  Const Int 1
+  Const Int 5
+  Const Int 9
+  Const Int 2
+  Const Int 6
+  Const Int 5
+  Const Int 3
+  Const Int 5
+  Const Int 8
+  Const Int 9
+  Const Int 7
+  Const Int 9
+  Const Int 3
+  BuildArr 16
+  DefineLocal array
+again:
+  GetLocal i
+  Const Int ROUNDS
+  Less
+  JumpIfFalse done
+  GetLocal sum
+  GetLocal array
+  GetLocal k
+  Index
+  Add
+  SetLocal sum
+  Pop
+  GetLocal k
+  Const Int 1
+  Add
+  SetLocal k
+  GetLocal array
+  ArrLen
+  Eq
+  JumpIfFalse on
+  Const Int 0
+  SetLocal k
+  Pop
+on:
+  GetLocal i
+  Const Int 1
+  Add
+  SetLocal i
+  Pop
+  Loop again
+done:
+  GetLocal sum
+  Return
+";

@@ -1,0 +1,66 @@
+use borrow.Author.Needs.{needs}
+use Rattle.checker.proofs.lines.fault.Statement.{statement}
+use Rattle.checker.proofs.lines.fault.Tie as tie
+use Rattle.lines_out.proofs.Pieces.{then}
+
+slice-aggregate-put : tie.Need-slice-aggregate-put
+slice-aggregate-put c = search needs
+
+put-requires : tie.Need-put-requires
+put-requires c κs = search needs
+
+put-decimal-requires : tie.Need-put-decimal-requires
+put-decimal-requires c κs = search needs
+
+slice-aggregate-put-2 : tie.Need-slice-aggregate-put-2
+slice-aggregate-put-2 c = search needs
+
+put-requires-2 : tie.Need-put-requires-2
+put-requires-2 c κs = search needs
+
+put-padded-requires : tie.Need-put-padded-requires
+put-padded-requires c κs = search needs
+
+slice-aggregate-put-3 : tie.Need-slice-aggregate-put-3
+slice-aggregate-put-3 c = search needs
+
+put-requires-3 : tie.Need-put-requires-3
+put-requires-3 c κs = search needs
+
+put-padded-requires-2 : tie.Need-put-padded-requires-2
+put-padded-requires-2 c κs = search needs
+
+slice-aggregate-put-4 : tie.Need-slice-aggregate-put-4
+slice-aggregate-put-4 c = search needs
+
+put-requires-4 : tie.Need-put-requires-4
+put-requires-4 c κs = search needs
+
+same-length : tie.Need-same-length
+same-length c = search needs
+
+returns : tie.Need-returns
+returns c =
+    let o = then ((c .before .before .before .before .before .before .before .put-padded2 .ensures) .0) (c .before .before .put4 .ensures) in
+    let k = then ((c .before .before .before .before .before .before .before .before .before .before .before .before .before .before .before .before .put-padded .ensures) .0) (then (c .before .before .before .before .before .before .before .before .before .before .before .put3 .ensures) o) in
+    let n = then ((c .before .before .before .before .before .before .before .before .before .before .before .before .before .before .before .before .before .before .before .before .before .before .before .before .before .put-decimal .ensures) .0) (then (c .before .before .before .before .before .before .before .before .before .before .before .before .before .before .before .before .before .before .before .before .put2 .ensures) k) in
+    let all = then (c .before .before .before .before .before .before .before .before .before .before .before .before .before .before .before .before .before .before .before .before .before .before .before .before .before .before .before .before .before .put .ensures) n in
+    all
+
+pub fault-spec : {M : Type 1} → statement M
+fault-spec =
+    tie.close
+    (tie.spec
+    slice-aggregate-put
+    put-requires
+    put-decimal-requires
+    slice-aggregate-put-2
+    put-requires-2
+    put-padded-requires
+    slice-aggregate-put-3
+    put-requires-3
+    put-padded-requires-2
+    slice-aggregate-put-4
+    put-requires-4
+    same-length
+    returns)

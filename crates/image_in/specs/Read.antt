@@ -1,0 +1,8 @@
+-- What was read: no more bytes than there was room for. (Which bytes they are no contract can say.)
+use Prim.Native.Nat.{ℕ, _≤_}
+use Rattle.image_in.specs.declared.Input.{Input}
+use Rattle.image_in.specs.declared.Input.the-variants.{Bytes, Failed}
+
+abbrev pub Counted : Input → ℕ → Type 0
+Counted (Bytes n) size = n ≤ size
+Counted Failed size = Unit {0}

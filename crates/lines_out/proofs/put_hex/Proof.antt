@@ -1,0 +1,79 @@
+use Rattle.lines_out.proofs.put_hex.Statement.{statement}
+use Rattle.lines_out.proofs.put_hex.Tie as tie
+use mathlib.Core.Path.{_≡_, refl, sym, _∙_}
+use mathlib.Core.List.{_++_, append-nil}
+use Prim.Native.Nat.{_+_, _*_, _-_, _≤_}
+use native.Mathlib.Omega.{arith}
+use lib.ListN.{length, getD, set, take, length-set}
+use borrow.Author.Needs.{needs}
+use Rattle.definition.specs.Runner.{hex}
+use Rattle.lines_out.proofs.Pieces.{hex-next, hex-put}
+
+abbrev Inv-loop : tie.InvT-loop
+Inv-loop out₀ at bytes i₀ to₀ out i to = (i ≤ length bytes) × (length out ≡ length out₀) × (to ≡ at + 2 * i) × (take to out ≡ take at out₀ ++ hex (take i bytes))
+
+abbrev μ-loop : tie.MeasureT-loop
+μ-loop out₀ at bytes i₀ to₀ out i to = length bytes - i
+
+loop-holds : tie.Need-loop-holds Inv-loop μ-loop
+loop-holds c = (omega arith, refl, omega arith, sym (append-nil (take (c .before .before .args .at) (c .before .before .args .out .now))))
+
+shared-slice-read-high-digit : tie.Need-shared-slice-read-high-digit Inv-loop μ-loop
+shared-slice-read-high-digit c = (c .before .loop-test .taken)
+
+high-digit-requires : tie.Need-high-digit-requires Inv-loop μ-loop
+high-digit-requires c κs = search needs
+
+shared-slice-read-low-digit : tie.Need-shared-slice-read-low-digit Inv-loop μ-loop
+shared-slice-read-low-digit c = (c .before .before .before .loop-test .taken)
+
+low-digit-requires : tie.Need-low-digit-requires Inv-loop μ-loop
+low-digit-requires c κs = search needs
+
+slice-write-out : tie.Need-slice-write-out Inv-loop μ-loop
+slice-write-out c = omega (arith, ((c .before .before .before .before .before .loop .inv .1)), ((c .before .before .before .before .before .loop .inv .2)), ((c .before .before .before .before .loop-test .taken)), ((c .before .before .before .before .before .before .before .before .pre)))
+
+add-out : tie.Need-add-out Inv-loop μ-loop
+add-out c = let a = (c .before .before .before .before .before .loop .inv .1) in let b = (c .before .before .before .before .before .loop .inv .2) in let d = (c .before .before .before .before .loop-test .taken) in let e = (c .before .before .before .before .before .before .before .before .pre) in search needs
+
+slice-write-out-2 : tie.Need-slice-write-out-2 Inv-loop μ-loop
+slice-write-out-2 c = rw length-set (omega (arith, ((c .before .before .before .before .before .loop .inv .1)), ((c .before .before .before .before .before .loop .inv .2)), ((c .before .before .before .before .loop-test .taken)), ((c .before .before .before .before .before .before .before .before .pre))))
+
+add-to : tie.Need-add-to Inv-loop μ-loop
+add-to c = let a = (c .before .before .before .before .before .loop .inv .1) in let b = (c .before .before .before .before .before .loop .inv .2) in let d = (c .before .before .before .before .loop-test .taken) in let e = (c .before .before .before .before .before .before .before .before .pre) in search needs
+
+add-i : tie.Need-add-i Inv-loop μ-loop
+add-i c = let a = (c .before .before .before .before .before .loop .inv .1) in let b = (c .before .before .before .before .before .loop .inv .2) in let d = (c .before .before .before .before .loop-test .taken) in let e = (c .before .before .before .before .before .before .before .before .pre) in search needs
+
+loop-less : tie.Need-loop-less Inv-loop μ-loop
+loop-less c = omega (arith, (c .before .before .before .before .loop-test .taken))
+
+loop-again : tie.Need-loop-again Inv-loop μ-loop
+loop-again c = (omega (arith, (c .before .before .before .before .loop-test .taken)), length-set (set (c .before .before .before .before .before .loop .out) (c .before .before .before .before .before .loop .to) (c .before .before .high-digit .result)) ((c .before .before .before .before .before .loop .to) + 1) (c .low-digit .result) ∙ length-set (c .before .before .before .before .before .loop .out) (c .before .before .before .before .before .loop .to) (c .before .before .high-digit .result) ∙ (c .before .before .before .before .before .loop .inv .1), omega (arith, (c .before .before .before .before .before .loop .inv .2)), hex-next (c .before .before .before .before .before .before .before .before .args .out .now) (c .before .before .before .before .before .loop .out) (c .before .before .before .before .before .before .before .before .args .bytes .now) (c .before .before .before .before .before .before .before .before .args .at) (c .before .before .before .before .before .loop .i) (c .before .before .before .before .before .loop .to) (c .before .before .high-digit .result) (c .low-digit .result) (c .before .before .before .before .loop-test .taken) (omega (arith, ((c .before .before .before .before .before .loop .inv .1)), ((c .before .before .before .before .before .loop .inv .2)), ((c .before .before .before .before .loop-test .taken)), ((c .before .before .before .before .before .before .before .before .pre)))) (c .before .before .high-digit .ensures) (c .low-digit .ensures) (c .before .before .before .before .before .loop .inv .3))
+
+same-length : tie.Need-same-length Inv-loop μ-loop
+same-length c = (c .before .loop .inv .1)
+
+returns : tie.Need-returns Inv-loop μ-loop
+returns c = hex-put (c .before .before .before .before .args .out .now) (c .before .loop .out) (c .before .before .before .before .args .bytes .now) (c .before .before .before .before .args .at) (c .before .loop .i) (c .before .loop .to) (omega (arith, (c .before .loop .inv .0), (c .loop-test .left))) (c .before .loop .inv .2) (c .before .before .before .before .pre) (c .before .loop .inv .1) (c .before .loop .inv .3)
+
+pub put-hex-spec : {M : Type 1} → statement M
+put-hex-spec =
+    tie.close
+    (tie.spec
+    Inv-loop
+    μ-loop
+    loop-holds
+    shared-slice-read-high-digit
+    high-digit-requires
+    shared-slice-read-low-digit
+    low-digit-requires
+    slice-write-out
+    add-out
+    slice-write-out-2
+    add-to
+    add-i
+    loop-less
+    loop-again
+    same-length
+    returns)

@@ -1,0 +1,11 @@
+-- A piece of a line, put into a buffer.
+use mathlib.Core.Path.{_≡_}
+use mathlib.Core.List.{List, _++_}
+use Prim.Native.Nat.{ℕ, _+_, _≤_}
+use lib.ListN.{length, take}
+
+-- w was put into `out` at `at`: `out′` is what the buffer holds now, and w ends at `to` there
+pub record Puts (out : List ℕ) (at : ℕ) (w : List ℕ) (out′ : List ℕ) (to : ℕ) : Type 0 where
+  pub to-is : to ≡ at + length w
+  pub within : to ≤ length out′
+  pub text : take to out′ ≡ take at out ++ w

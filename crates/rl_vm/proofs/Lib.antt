@@ -1,0 +1,3 @@
+pub mod NoNine
+pub mod Checking
+pub mod Running

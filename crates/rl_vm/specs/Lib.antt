@@ -1,0 +1,5 @@
+pub mod Work
+pub mod Check
+pub mod Export
+pub mod Run
+pub mod RunExport

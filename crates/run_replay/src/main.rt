@@ -1,0 +1,193 @@
+// Runs each image of a list on standard input, and compares the answers with those of the list.
+//
+// A case is the image, byte for byte, and then a line `= BUDGET ROOM ANSWER`: the budget, the length of the result slice, and the runner's line,
+// `value COUNT RESULT`, `stop NUMBER COUNT CHUNK OFFSET` or `refused NUMBER LINE`. A line of another form after `=`, and what stands after the last
+// answer, are counted as malformed. The list is made by tests/stored, which says where its answers come from.
+mod list; // the lines of the list
+mod spell; // an answer as the list has it
+
+ghost use Prim.Native.Nat.{_≤_};
+use libc::STDOUT_FILENO;
+use list::after;
+use list::line_end;
+use rl_vm::run;
+use spell::agrees;
+use std::num::wrapping_add_u64;
+use std::num::wrapping_add_usize;
+
+struct Tally {
+    cases: u64,
+    agree: u64,
+    malformed: u64,
+}
+
+// A number of the list, and where the word after it begins.
+struct Word {
+    value: usize,
+    next: usize,
+}
+
+fn wide(x: u8) -> usize {
+    x as usize
+}
+
+// n * 10 + d, wrapping: no number of the list is so large.
+fn shifted(n: usize, d: usize) -> usize {
+    let two = wrapping_add_usize(n, n);
+    let four = wrapping_add_usize(two, two);
+    let eight = wrapping_add_usize(four, four);
+    wrapping_add_usize(wrapping_add_usize(eight, two), d)
+}
+
+// The decimal number at `at`, up to the first character that is no digit, which is passed over.
+fn number(line: &[u8], at: usize) -> Word {
+    let mut i = at;
+    let mut value = 0;
+    while i < line.len() {
+        let x = line[i];
+        if x < 48 {
+            return Word { value, next: i + 1 };
+        }
+        if 57 < x {
+            return Word { value, next: i + 1 };
+        }
+        value = shifted(value, wide(x - 48));
+        i += 1;
+    }
+    Word { value, next: i }
+}
+
+// Whether the run of an image, with this budget and this result slice, answers what the line says from `from` on.
+fn runs_as(image: &[u8], budget: usize, result: &mut [u8], line: &[u8], from: usize) -> bool {
+    let mut bytes = [0u8; 32768];
+    let mut ends = [0usize; 256];
+    let mut kinds = [0u8; 13107];
+    let mut payloads = [0u64; 13107];
+    let mut table = [0usize; 260];
+    let mut texts = [0u64; 257];
+    let mut classes = [0u64; 65];
+    let mut stack = [0u64; 512];
+    let mut locals = [0u64; 2048];
+    let mut starts = [0usize; 256];
+    let mut globals = [0u64; 512];
+    let mut cells = [0u64; 8192];
+    let mut memo = [0u64; 4096];
+    let mut frames = [0usize; 315];
+    let a = run(
+        image,
+        budget,
+        result,
+        &mut bytes,
+        &mut ends,
+        &mut kinds,
+        &mut payloads,
+        &mut table,
+        &mut texts,
+        &mut classes,
+        &mut stack,
+        &mut locals,
+        &mut starts,
+        &mut globals,
+        &mut cells,
+        &mut memo,
+        &mut frames,
+    );
+    agrees(a, result, line, from)
+}
+
+// The same with the first `room` bytes of `result`.
+fn runs_within(
+    image: &[u8],
+    budget: usize,
+    result: &mut [u8],
+    room: usize,
+    line: &[u8],
+    from: usize,
+) -> bool {
+    if room <= result.len() {
+        return runs_as(image, budget, &mut result[..room], line, from);
+    }
+    false
+}
+
+fn counted(t: Tally, agrees: bool) -> Tally {
+    let cases = wrapping_add_u64(t.cases, 1);
+    if agrees {
+        return Tally {
+            cases,
+            agree: wrapping_add_u64(t.agree, 1),
+            malformed: t.malformed,
+        };
+    }
+    io::write_all(STDOUT_FILENO, b"differs: case ");
+    io::print_decimal(STDOUT_FILENO, cases);
+    io::write_all(STDOUT_FILENO, b"\n");
+    Tally {
+        cases,
+        agree: t.agree,
+        malformed: t.malformed,
+    }
+}
+
+fn one_malformed(t: Tally) -> Tally {
+    Tally {
+        cases: wrapping_add_u64(t.cases, 1),
+        agree: t.agree,
+        malformed: wrapping_add_u64(t.malformed, 1),
+    }
+}
+
+// One case: the image, and the line of its answer.
+fn judge(t: Tally, image: &[u8], line: &[u8]) -> Tally {
+    let budget = number(line, 2);
+    let room = number(line, budget.next);
+    let from = room.next;
+    let mut result = [0u8; 4096];
+    if result.len() < room.value {
+        return one_malformed(t);
+    }
+    if line.len() <= from {
+        return one_malformed(t);
+    }
+    let same = runs_within(image, budget.value, &mut result, room.value, line, from);
+    counted(t, same)
+}
+
+// All cases of the list; what stands after the last answer is one malformed case.
+fn replay(list: &[u8]) -> Tally {
+    let mut t = Tally {
+        cases: 0,
+        agree: 0,
+        malformed: 0,
+    };
+    let mut from = 0;
+    let mut at = 0;
+    while at < list.len() {
+        let end = line_end(list, at);
+        let next = after(end, list.len());
+        if list[at] == b'=' {
+            t = judge(t, &list[from..at], &list[at..end]);
+            from = next;
+        }
+        at = next;
+    }
+    if from < list.len() {
+        return one_malformed(t);
+    }
+    t
+}
+
+fn print_count(what: &[u8], n: u64) {
+    io::write_all(STDOUT_FILENO, what);
+    io::print_decimal(STDOUT_FILENO, n);
+    io::write_all(STDOUT_FILENO, b"\n");
+}
+
+fn main() {
+    let mut list = [0u8; 524288];
+    let n = io::read_full(0, &mut list);
+    let t = replay(&list[..n]);
+    print_count(b"cases ", t.cases);
+    print_count(b"agree ", t.agree);
+    print_count(b"malformed ", t.malformed);
+}

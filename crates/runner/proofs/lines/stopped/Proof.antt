@@ -1,0 +1,75 @@
+use borrow.Author.Needs.{needs}
+use Rattle.runner.proofs.lines.stopped.Statement.{statement}
+use Rattle.runner.proofs.lines.stopped.Tie as tie
+use Rattle.lines_out.proofs.Pieces.{then}
+use native.Mathlib.Omega.{arith}
+use mathlib.Core.Path.{_∙_}
+
+slice-aggregate-put : tie.Need-slice-aggregate-put
+slice-aggregate-put c = search needs
+
+put-requires : tie.Need-put-requires
+put-requires c κs = search needs
+
+put-decimal-requires : tie.Need-put-decimal-requires
+put-decimal-requires c κs = search needs
+
+slice-aggregate-put-2 : tie.Need-slice-aggregate-put-2
+slice-aggregate-put-2 c = search needs
+
+put-requires-2 : tie.Need-put-requires-2
+put-requires-2 c κs = search needs
+
+put-decimal-requires-2 : tie.Need-put-decimal-requires-2
+put-decimal-requires-2 c κs = search needs
+
+slice-aggregate-put-3 : tie.Need-slice-aggregate-put-3
+slice-aggregate-put-3 c = search needs
+
+put-requires-3 : tie.Need-put-requires-3
+put-requires-3 c κs = search needs
+
+put-padded-requires : tie.Need-put-padded-requires
+put-padded-requires c κs = search needs
+
+slice-aggregate-put-4 : tie.Need-slice-aggregate-put-4
+slice-aggregate-put-4 c = search needs
+
+put-requires-4 : tie.Need-put-requires-4
+put-requires-4 c κs = search needs
+
+put-padded-requires-2 : tie.Need-put-padded-requires-2
+put-padded-requires-2 c κs = omega (arith, (c .before .before .before .before .before .before .before .before .before .before .before .before .before .before .before .before .before .before .before .before .before .before .before .before .before .before .before .before .before .before .before .before .before .before .pre), (c .before .before .before .before .before .before .before .before .before .before .before .before .before .before .before .before .before .before .before .before .before .before .before .before .before .before .before .before .before .before .put .kept .0), (c .before .before .before .before .before .before .before .before .before .before .before .before .before .before .before .before .before .before .before .before .before .before .before .before .before .before .before .before .before .before .put .ensures .to-is), (c .before .before .before .before .before .before .before .before .before .before .before .before .before .before .before .before .before .before .before .before .before .before .before .before .before .before .put-decimal .kept .0), (c .before .before .before .before .before .before .before .before .before .before .before .before .before .before .before .before .before .before .before .before .before .before .before .before .before .before .put-decimal .ensures .1), (c .before .before .before .before .before .before .before .before .before .before .before .before .before .before .before .before .before .before .before .before .before .put2 .kept .0), (c .before .before .before .before .before .before .before .before .before .before .before .before .before .before .before .before .before .before .before .before .before .put2 .ensures .to-is), (c .before .before .before .before .before .before .before .before .before .before .before .before .before .before .before .before .before .put-decimal2 .kept .0), (c .before .before .before .before .before .before .before .before .before .before .before .before .before .before .before .before .before .put-decimal2 .ensures .1), (c .before .before .before .before .before .before .before .before .before .before .before .before .put3 .kept .0), (c .before .before .before .before .before .before .before .before .before .before .before .before .put3 .ensures .to-is), (c .before .before .before .before .before .before .before .before .put-padded .kept .0), (c .before .before .before .before .before .before .before .before .put-padded .ensures .1), (c .before .before .before .put4 .kept .0), (c .before .before .before .put4 .ensures .to-is))
+
+slice-aggregate-put-5 : tie.Need-slice-aggregate-put-5
+slice-aggregate-put-5 c = search needs
+
+put-requires-5 : tie.Need-put-requires-5
+put-requires-5 c κs = omega (arith, (c .before .before .before .before .before .before .before .before .before .before .before .before .before .before .before .before .before .before .before .before .before .before .before .before .before .before .before .before .before .before .before .before .before .before .before .before .before .before .before .pre), (c .before .before .before .before .before .before .before .before .before .before .before .before .before .before .before .before .before .before .before .before .before .before .before .before .before .before .before .before .before .before .before .before .before .before .before .put .kept .0), (c .before .before .before .before .before .before .before .before .before .before .before .before .before .before .before .before .before .before .before .before .before .before .before .before .before .before .before .before .before .before .before .before .before .before .before .put .ensures .to-is), (c .before .before .before .before .before .before .before .before .before .before .before .before .before .before .before .before .before .before .before .before .before .before .before .before .before .before .before .before .before .before .before .put-decimal .kept .0), (c .before .before .before .before .before .before .before .before .before .before .before .before .before .before .before .before .before .before .before .before .before .before .before .before .before .before .before .before .before .before .before .put-decimal .ensures .1), (c .before .before .before .before .before .before .before .before .before .before .before .before .before .before .before .before .before .before .before .before .before .before .before .before .before .before .put2 .kept .0), (c .before .before .before .before .before .before .before .before .before .before .before .before .before .before .before .before .before .before .before .before .before .before .before .before .before .before .put2 .ensures .to-is), (c .before .before .before .before .before .before .before .before .before .before .before .before .before .before .before .before .before .before .before .before .before .before .put-decimal2 .kept .0), (c .before .before .before .before .before .before .before .before .before .before .before .before .before .before .before .before .before .before .before .before .before .before .put-decimal2 .ensures .1), (c .before .before .before .before .before .before .before .before .before .before .before .before .before .before .before .before .before .put3 .kept .0), (c .before .before .before .before .before .before .before .before .before .before .before .before .before .before .before .before .before .put3 .ensures .to-is), (c .before .before .before .before .before .before .before .before .before .before .before .before .before .put-padded .kept .0), (c .before .before .before .before .before .before .before .before .before .before .before .before .before .put-padded .ensures .1), (c .before .before .before .before .before .before .before .before .put4 .kept .0), (c .before .before .before .before .before .before .before .before .put4 .ensures .to-is), (c .before .before .before .before .put-padded2 .kept .0), (c .before .before .before .before .put-padded2 .ensures .1))
+
+same-length : tie.Need-same-length
+same-length c = (c .before .before .put5 .kept .0) ∙ (c .before .before .before .before .before .before .before .put-padded2 .kept .0) ∙ (c .before .before .before .before .before .before .before .before .before .before .before .put4 .kept .0) ∙ (c .before .before .before .before .before .before .before .before .before .before .before .before .before .before .before .before .put-padded .kept .0) ∙ (c .before .before .before .before .before .before .before .before .before .before .before .before .before .before .before .before .before .before .before .before .put3 .kept .0) ∙ (c .before .before .before .before .before .before .before .before .before .before .before .before .before .before .before .before .before .before .before .before .before .before .before .before .before .put-decimal2 .kept .0) ∙ (c .before .before .before .before .before .before .before .before .before .before .before .before .before .before .before .before .before .before .before .before .before .before .before .before .before .before .before .before .before .put2 .kept .0) ∙ (c .before .before .before .before .before .before .before .before .before .before .before .before .before .before .before .before .before .before .before .before .before .before .before .before .before .before .before .before .before .before .before .before .before .before .put-decimal .kept .0) ∙ (c .before .before .before .before .before .before .before .before .before .before .before .before .before .before .before .before .before .before .before .before .before .before .before .before .before .before .before .before .before .before .before .before .before .before .before .before .before .before .put .kept .0)
+
+returns : tie.Need-returns
+returns c = let o = then ((c .before .before .before .before .before .before .before .put-padded2 .ensures) .0) (c .before .before .put5 .ensures) in let p = then ((c .before .before .before .before .before .before .before .before .before .before .before .before .before .before .before .before .put-padded .ensures) .0) (then (c .before .before .before .before .before .before .before .before .before .before .before .put4 .ensures) o) in let k = then ((c .before .before .before .before .before .before .before .before .before .before .before .before .before .before .before .before .before .before .before .before .before .before .before .before .before .put-decimal2 .ensures) .0) (then (c .before .before .before .before .before .before .before .before .before .before .before .before .before .before .before .before .before .before .before .before .put3 .ensures) p) in let n = then ((c .before .before .before .before .before .before .before .before .before .before .before .before .before .before .before .before .before .before .before .before .before .before .before .before .before .before .before .before .before .before .before .before .before .before .put-decimal .ensures) .0) (then (c .before .before .before .before .before .before .before .before .before .before .before .before .before .before .before .before .before .before .before .before .before .before .before .before .before .before .before .before .before .put2 .ensures) k) in then (c .before .before .before .before .before .before .before .before .before .before .before .before .before .before .before .before .before .before .before .before .before .before .before .before .before .before .before .before .before .before .before .before .before .before .before .before .before .before .put .ensures) n
+
+pub stopped-spec : {M : Type 1} → statement M
+stopped-spec =
+    tie.close
+    (tie.spec
+    slice-aggregate-put
+    put-requires
+    put-decimal-requires
+    slice-aggregate-put-2
+    put-requires-2
+    put-decimal-requires-2
+    slice-aggregate-put-3
+    put-requires-3
+    put-padded-requires
+    slice-aggregate-put-4
+    put-requires-4
+    put-padded-requires-2
+    slice-aggregate-put-5
+    put-requires-5
+    same-length
+    returns)
