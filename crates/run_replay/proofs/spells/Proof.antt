@@ -1,5 +1,5 @@
-use Rattle.run_replay.proofs.spell.spells.Statement.{statement}
-use Rattle.run_replay.proofs.spell.spells.Tie as tie
+use Rattle.run_replay.proofs.spells.Statement.{statement}
+use Rattle.run_replay.proofs.spells.Tie as tie
 use native.Mathlib.Omega.{arith}
 use Prim.Native.Nat.{_-_, _≤_}
 use lib.ListN.{length}
