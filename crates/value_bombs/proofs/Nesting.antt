@@ -21,16 +21,16 @@ use Rattle.values.specs.declared.VmValue.{VmValue}
 use Rattle.values.specs.declared.VmValue.the-variants.{Null, Num}
 use Rattle.values.specs.declared.Built.{Built}
 use Rattle.values.specs.declared.Built.the-variants as built
-use Rattle.values.specs.declared.Coded.{Coded}
-use Rattle.values.specs.declared.Coded.the-variants.{TooLong}
+use Rattle.value_coding.specs.declared.Coded.{Coded}
+use Rattle.value_coding.specs.declared.Coded.the-variants.{TooLong}
 use Rattle.values.specs.Words.{pairs, valueAt, Fit}
 use Rattle.values.specs.Cells.{treeOver, cellsOf, treesOf, treeOf, Placed, WellFormed, Held}
 use Rattle.values.specs.Building.{Builds, BuiltOn, Kept, RoomKept, FitBuilt}
-use Rattle.values.specs.Classes.{classOf, ClassTables}
-use Rattle.values.specs.Equality.{Memo, Down, EqualAsks, EqualGives}
-use Rattle.values.specs.Coding.{codeOf, codedAnswer, codedOut, CodeGives}
-use Rattle.values.proofs.Equals.{cells-length}
-use Rattle.values.proofs.Memos.{memo-none, down-none}
+use Rattle.value_equality.specs.Classes.{classOf, ClassTables}
+use Rattle.value_equality.specs.Equality.{Memo, Down, EqualAsks, EqualGives}
+use Rattle.value_coding.specs.Coding.{codeOf, codedAnswer, codedOut, CodeGives}
+use Rattle.values.proofs.InCells.{cells-length}
+use Rattle.value_equality.proofs.Memos.{memo-none, down-none}
 use Rattle.values.proofs.FlatTrees.{none-formed}
 use Rattle.value_bombs.specs.Nested.{nestedTree, lastTree, noImage, NestedAsks, Stays, Grows, NestedAt, CodedGives, done, not-built}
 

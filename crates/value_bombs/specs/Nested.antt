@@ -14,12 +14,12 @@ use Rattle.definition.specs.Equality.{Equal}
 use Rattle.definition.specs.Coding.{coded}
 use Rattle.values.specs.declared.VmValue.{VmValue}
 use Rattle.values.specs.declared.Built.the-variants as built
-use Rattle.values.specs.declared.Coded.{Coded}
-use Rattle.values.specs.declared.Coded.the-variants.{TooLong}
+use Rattle.value_coding.specs.declared.Coded.{Coded}
+use Rattle.value_coding.specs.declared.Coded.the-variants.{TooLong}
 use Rattle.values.specs.Words.{Fit}
 use Rattle.values.specs.Cells.{cellsOf, treeOf, Placed, WellFormed}
 use Rattle.values.specs.Building.{Builds}
-use Rattle.values.specs.Coding.{codedAnswer, codedOut}
+use Rattle.value_coding.specs.Coding.{codedAnswer, codedOut}
 use Rattle.value_bombs.specs.declared.Grown.{Grown}
 use Rattle.value_bombs.specs.declared.Grown.the-variants as grown
 use Rattle.value_bombs.specs.declared.Nested.{Nested}

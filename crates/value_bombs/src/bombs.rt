@@ -1,5 +1,5 @@
-// Values built and compared from empty cells, with no requires: what `values::equal` and `values::code_value` ask is met by what building
-// gives.
+// Values built and compared from empty cells, with no requires: what `value_equality::equal` and `value_coding::code_value` ask is met by
+// what building gives.
 ghost use mathlib.Core.Path.{_≡_};
 ghost use mathlib.Core.List.{[], _∷_};
 ghost use Prim.Native.Nat.{ℕ, _+_, _*_, _<_, _≤_};
@@ -12,8 +12,8 @@ use super::Compared;
 use super::Grown;
 use super::Nested;
 use numbers::Number;
+use value_coding::Coded;
 use values::Built;
-use values::Coded;
 use values::VmValue;
 
 // The value [x, y].
@@ -103,7 +103,7 @@ pub fn compare_nested(
             Nested::At(b, m) => {
                 let texts = [0u64; 1];
                 let chunks = [0u64; 1];
-                Compared::Answer(values::equal(&texts, &chunks, cells, m, memo, a, b))
+                Compared::Answer(value_equality::equal(&texts, &chunks, cells, m, memo, a, b))
             }
             Nested::NotBuilt => Compared::NotBuilt,
         },
@@ -125,7 +125,7 @@ pub fn code_nested(
         return Coded::TooLong;
     }
     match nest(cells, 0, leaf, last, depth) {
-        Nested::At(a, n) => values::code_value(cells, n, a, out),
+        Nested::At(a, n) => value_coding::code_value(cells, n, a, out),
         Nested::NotBuilt => Coded::TooLong,
     }
 }

@@ -6,7 +6,7 @@ pub use bombs::code_nested;
 pub use bombs::compare_nested;
 use libc::STDOUT_FILENO;
 use numbers::Number;
-use values::Coded;
+use value_coding::Coded;
 use values::VmValue;
 
 // The two values of the next level; or there was no room.

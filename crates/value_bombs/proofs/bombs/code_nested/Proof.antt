@@ -13,7 +13,7 @@ use Rattle.value_bombs.proofs.bombs.code_nested.Tie as tie
 use Rattle.value_bombs.proofs.bombs.code_nested.Reads as reads
 use Rattle.value_bombs.proofs.bombs.code_nested.Lts as lts
 use Rattle.value_bombs.proofs.bombs.nest.Reads as nest-reads
-use Rattle.values.proofs.code_value.Reads as code-value-reads
+use Rattle.value_coding.proofs.code_value.Reads as code-value-reads
 
 returns : tie.Need-returns
 returns c = not-built refl refl

@@ -13,7 +13,7 @@ use Rattle.value_bombs.proofs.bombs.compare_nested.Reads as reads
 use Rattle.value_bombs.proofs.bombs.compare_nested.Lts as lts
 use Rattle.value_bombs.proofs.bombs.clear.Reads as clear-reads
 use Rattle.value_bombs.proofs.bombs.nest.Reads as nest-reads
-use Rattle.values.proofs.equal.Reads as equal-reads
+use Rattle.value_equality.proofs.equal.Reads as equal-reads
 
 returns : tie.Need-returns
 returns c = search needs

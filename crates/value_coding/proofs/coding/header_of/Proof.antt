@@ -1,0 +1,28 @@
+use mathlib.Core.Path.{_≡_, refl, sym, ap, _∙_, subst}
+use Rattle.values.specs.Flat.{headOf}
+use Rattle.value_coding.proofs.Codes.{header-made}
+use Rattle.values.proofs.KindCodes.{kind-is}
+use borrow.Author.Needs.{needs}
+use Rattle.value_coding.proofs.coding.header_of.Statement.{statement}
+use Rattle.value_coding.proofs.coding.header_of.Tie as tie
+use Rattle.value_coding.proofs.coding.header_of.Reads as reads
+use Rattle.value_coding.proofs.coding.header_of.Lts as lts
+use Rattle.value_coding.proofs.coding.header_size.Reads as header-size-reads
+use Rattle.value_coding.proofs.coding.header_word.Reads as header-word-reads
+use Rattle.values.proofs.kind_of.Reads as kind-of-reads
+
+kind-of-requires : tie.Need-kind-of-requires
+kind-of-requires c κs = search needs
+
+header-size-requires : tie.Need-header-size-requires
+header-size-requires c κs = search needs
+
+header-word-requires : tie.Need-header-word-requires
+header-word-requires c κs = search needs
+
+returns : tie.Need-returns
+returns c = header-made (headOf (c .before .before .before .args .v)) (c .before .before .before .args .n) (c .before .before .kind-of .result) (c .before .header-size .result) (c .header-word .result) ((c .before .before .kind-of .ensures) ∙ kind-is (c .before .before .before .args .v)) ((c .before .header-size .ensures) (c .before .before .before .args .n)) (c .header-word .ensures)
+
+pub header-of-spec : {M : Type 1} → statement M
+header-of-spec =
+    tie.close (tie.spec kind-of-requires header-size-requires header-word-requires returns)

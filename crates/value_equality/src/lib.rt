@@ -1,0 +1,24 @@
+// Equality of values and the kind test, over values whose parts lie in lent cells; and the classes of texts and chunks by which equality
+// compares them.
+mod classes;
+mod equality;
+mod kind;
+
+pub use classes::chunk_classes;
+pub use classes::class_of;
+pub use classes::text_classes;
+pub use equality::equal;
+pub use equality::number_of;
+pub use kind::value_is_kind;
+use numbers::Number;
+use values::Block;
+
+pub enum MaybeNumber {
+    Is(Number),
+    Not,
+}
+
+pub enum MaybeBlock {
+    Is(Block),
+    Not,
+}
