@@ -9,7 +9,7 @@ use lib.Dec.{ltb}
 use lib.ListN.{length, take}
 use Rattle.definition.specs.Runner.{ascii, decimal, padded, words}
 use Rattle.image.specs.Answer.{numberOf, short}
-use Rattle.image.specs.declared.Reason as refusal
+use Rattle.image_records.specs.declared.Reason as refusal
 use Rattle.stack_check.specs.Answer.{reasonNumber}
 use Rattle.stack_check.specs.declared.Reason as fault
 use Rattle.rl_vm.specs.Work.{CheckWork, checkShort}

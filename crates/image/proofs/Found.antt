@@ -14,7 +14,7 @@ use Rattle.definition.specs.Loaded.{noConstant}
 use Rattle.definition.proofs.Keeps.{loads-kept}
 use Rattle.image.specs.Answer.{numberOf, Slices, holds, refuses, encoded, short, loadIn, flat, codeIn, endsFrom, rowsFrom, kindOf, payloadOf, slicesOf, countsOf, filled, Loads}
 use Rattle.image.specs.Held.{cut, HeldChunk, HeldText, Held, Found}
-use Rattle.image.specs.declared.Reason.{Reason}
+use Rattle.image_records.specs.declared.Reason.{Reason}
 use Rattle.image.specs.declared.Counts.{Counts}
 use Rattle.image.specs.declared.LoadAnswer.{LoadAnswer}
 use Rattle.image.specs.declared.LoadAnswer.the-variants.{Loaded, Refused}

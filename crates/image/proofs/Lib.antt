@@ -1,5 +1,4 @@
-pub mod Digits
-pub mod Stored
+pub mod Grown
 pub mod Reading
 pub mod Nested
 pub mod Access

@@ -12,12 +12,14 @@ use Rattle.definition.specs.Lines.{image, refused, isEmpty, split, Line, line, 
 use Rattle.definition.specs.Lines.{Part as FormatPart, Record as FormatRecord, onLine as formatLine}
 use Rattle.definition.proofs.Judged.{true-not-false, false-not-true, LineBytes, line-bytes, Told, told}
 use Rattle.definition.proofs.Keeps.{open-length, empty-snoc, empty-open, constant-no-text, code-no-text, after-code-no-text}
+use Rattle.image_records.specs.Records.{partOf, seenOf}
+use Rattle.image_records.specs.declared.Part.{Part}
+use Rattle.image_records.specs.declared.Part.the-variants.{InTexts, InConstants, InCode, AfterShort}
+use Rattle.image_records.specs.declared.State.{State}
+use Rattle.image_store.specs.Stored.{namedBy}
 use Rattle.image.specs.Answer.{holds, refuses, flat, codeIn, bytesIn, endsFrom, kindOf, payloadOf, rowsFrom, slicesOf, countsOf, encoded}
-use Rattle.image.specs.Turns.{partOf, seenOf, namedBy, Parts, start, grow, countsIn, closing, onRecord, onLine, go, goes, loadOf}
-use Rattle.image.specs.declared.records.Part.{Part}
-use Rattle.image.specs.declared.records.Part.the-variants.{InTexts, InConstants, InCode, AfterShort}
-use Rattle.image.specs.declared.records.State.{State}
-use Rattle.image.proofs.Stored.{parts-all}
+use Rattle.image.specs.Turns.{Parts, start, grow, countsIn, closing, onRecord, onLine, go, goes, loadOf}
+use Rattle.image.proofs.Grown.{parts-all}
 
 -- where a line stands, as the code has it
 abbrev codePart : FormatPart → Part

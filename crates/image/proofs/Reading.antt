@@ -11,21 +11,24 @@ use lib.Seq.{drop-cons, drop-at, drop-drop, drop-append-le, drop-append-add, len
 use Rattle.definition.specs.Lines.{isEmpty, Split, split, inFront, Line, line, faulty, lineOf, Seen, recordOf, loadImage}
 use Rattle.definition.specs.Lines.{Record as FormatRecord}
 use Rattle.definition.proofs.Judged.{true-not-false, false-not-true, cond-elim, LineBytes, line-bytes, Told, told}
+use Rattle.image_lines.specs.Fields.{readOf, ReadFits}
+use Rattle.image_lines.specs.declared.Read.{Read}
+use Rattle.image_lines.specs.declared.Read.the-variants.{Line as ReadLine, Faulty}
+use Rattle.image_lines.proofs.Digits.{line-here, line-open}
+use Rattle.image_records.specs.Records.{seenOf, says}
+use Rattle.image_records.specs.declared.Reason.{Reason}
+use Rattle.image_records.specs.declared.Reason.the-variants.{TooLong, BadLine, NoEnd, NoSuchChunk, ShortSlice}
+use Rattle.image_records.specs.declared.State.{State}
+use Rattle.image_records.specs.declared.Record.{Record}
+use Rattle.image_records.specs.declared.Record.the-variants.{Text, Opens, Constant, Code, Ends, Fault}
+use Rattle.image_store.specs.Stored.{advance, Fine, Accepted, finishOf}
+use Rattle.image_store.specs.declared.Turn.{Turn}
+use Rattle.image_store.specs.declared.Turn.the-variants.{Next, Ready, Stop}
 use Rattle.image.specs.Answer.{Slices, holds, refuses, encoded, short, loadIn, Behind, BehindMost, Loads}
-use Rattle.image.specs.Turns.{seenOf, says, readOf, ReadFits, Parts, none-yet, advance, grow, countsIn, onRecord, onLine, go, goes, loadOf, heldBy, partsOf, Roomy, Sized, Fine, Accepted, finishOf, turnOf, BehindState, TurnFits, Grows, TurnLeft, TakesLine, LoadsLines}
-use Rattle.image.specs.declared.Reason.{Reason}
-use Rattle.image.specs.declared.Reason.the-variants.{TooLong, BadLine, NoEnd, NoSuchChunk, ShortSlice}
+use Rattle.image.specs.Turns.{Parts, none-yet, grow, countsIn, onRecord, onLine, go, goes, loadOf, heldBy, partsOf, Roomy, Sized, turnOf, BehindState, TurnFits, Grows, TurnLeft, TakesLine, LoadsLines}
 use Rattle.image.specs.declared.LoadAnswer.{LoadAnswer}
 use Rattle.image.specs.declared.LoadAnswer.the-variants.{Loaded, Refused}
-use Rattle.image.specs.declared.records.State.{State}
-use Rattle.image.specs.declared.records.Record.{Record}
-use Rattle.image.specs.declared.records.Record.the-variants.{Text, Opens, Constant, Code, Ends, Fault}
-use Rattle.image.specs.declared.lines.Read.{Read}
-use Rattle.image.specs.declared.lines.Read.the-variants.{Line as ReadLine, Faulty}
-use Rattle.image.specs.declared.store.Turn.{Turn}
-use Rattle.image.specs.declared.store.Turn.the-variants.{Next, Ready, Stop}
-use Rattle.image.proofs.Digits.{line-here, line-open}
-use Rattle.image.proofs.Stored.{fine, grown}
+use Rattle.image.proofs.Grown.{fine, grown}
 
 -- nothing follows
 no-line : (x : ℕ) (ls : List (List ℕ)) (left : List ℕ) → (isEmpty (inFront x ls left .lines) && isEmpty (inFront x ls left .left)) ≡ false

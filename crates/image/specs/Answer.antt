@@ -7,22 +7,10 @@ use lib.ListN.{length, take, drop}
 use lib.Dec.{ltb}
 use Rattle.definition.specs.Image.{Constant, Chunk, Image}
 use Rattle.definition.specs.Lines.{Load, image, refused, loadImage, constantsOf}
-use Rattle.image.specs.declared.Reason.{Reason}
-use Rattle.image.specs.declared.Reason.the-variants.{TooLong, BadLine, OutOfOrder, BadField, TooMany, NoEnd, NoSuchChunk, ShortSlice}
+pub use Rattle.image_records.specs.Records.{numberOf}
 use Rattle.image.specs.declared.Counts.{Counts}
 use Rattle.image.specs.declared.LoadAnswer.{LoadAnswer}
 use Rattle.image.specs.declared.LoadAnswer.the-variants.{Loaded, Refused}
-
--- document 01's number of a refusal
-abbrev pub numberOf : Reason → ℕ
-numberOf TooLong = 1
-numberOf BadLine = 2
-numberOf OutOfOrder = 3
-numberOf BadField = 4
-numberOf TooMany = 5
-numberOf NoEnd = 6
-numberOf NoSuchChunk = 7
-numberOf ShortSlice = 9
 
 -- the five work slices, or the parts of them that an image fills. `bytes`: all texts, one after another, and after them the code of all
 -- chunks; `ends`: where each text ends in `bytes`; `kinds`, `payloads`: all constants, chunk after chunk; `table`: a row of four numbers for

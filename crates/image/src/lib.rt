@@ -1,34 +1,20 @@
 // Load: the bytes of an image, judged and decoded into lent work slices (document 01, "Image lines" and "Load").
-mod lines; // digits and lines
-mod records; // what a line says
-mod store; // what a line leaves in the work slices
-
+// `image_lines` has digits and lines, `image_records` what a line says, `image_store` what a line leaves in the work slices.
 ghost use mathlib.Core.Path.{_≡_};
 ghost use Prim.Native.Nat.{_≤_, _<_};
 ghost use lib.ListN.{length};
 ghost use Rattle.image.specs.Answer.{slices, Loads};
 ghost use Rattle.image.specs.Turns.{Roomy, Sized, TakesLine, LoadsLines};
-use lines::Read;
-use lines::line_end;
-use lines::read_line;
-use records::Part;
-use records::State;
-use records::record_of;
-use store::Turn;
-use store::accept;
-use store::finish;
-
-// Why an image is refused; specs/Answer.antt, `numberOf`, gives document 01's number of each.
-pub enum Reason {
-    TooLong,
-    BadLine,
-    OutOfOrder,
-    BadField,
-    TooMany,
-    NoEnd,
-    NoSuchChunk,
-    ShortSlice,
-}
+use image_lines::Read;
+use image_lines::line_end;
+use image_lines::read_line;
+use image_records::Part;
+pub use image_records::Reason;
+use image_records::State;
+use image_records::record_of;
+use image_store::Turn;
+use image_store::accept;
+use image_store::finish;
 
 // How much of the work slices a loaded image fills: `bytes`, `ends`, `kinds` and `payloads` up to these counts, `table` up to one row
 // of four more than there are chunks.

@@ -16,8 +16,8 @@ use Rattle.definition.proofs.OneAnswer.{bytes-settled}
 use Rattle.definition.proofs.Protected.{passed-protected}
 use Rattle.image.specs.Answer.{Slices, numberOf, short, Loads, refuses, encoded, loadIn}
 use Rattle.image.specs.Held.{Held, HeldChunk, Found}
-use Rattle.image.specs.declared.Reason.{Reason}
-use Rattle.image.specs.declared.Reason.the-variants.{TooLong, BadLine, OutOfOrder, BadField, TooMany, NoEnd, NoSuchChunk, ShortSlice}
+use Rattle.image_records.specs.declared.Reason.{Reason}
+use Rattle.image_records.specs.declared.Reason.the-variants.{TooLong, BadLine, OutOfOrder, BadField, TooMany, NoEnd, NoSuchChunk, ShortSlice}
 use Rattle.image.specs.declared.Counts.{Counts}
 use Rattle.image.specs.declared.LoadAnswer.{LoadAnswer}
 use Rattle.image.specs.declared.LoadAnswer.the-variants as load

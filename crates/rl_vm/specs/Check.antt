@@ -14,7 +14,7 @@ use Rattle.definition.specs.CheckAnswer.{pass, fails}
 use Rattle.definition.specs.Answers as definition
 use Rattle.definition.specs.Callers.{Protected}
 use Rattle.image.specs.Answer.{numberOf}
-use Rattle.image.specs.declared.Reason.the-variants.{ShortSlice}
+use Rattle.image_records.specs.declared.Reason.the-variants.{ShortSlice}
 use Rattle.stack_check.specs.Answer.{reasonNumber, ImageHeld}
 use Rattle.rl_vm.specs.Work.{CheckWork, checkShort}
 use Rattle.rl_vm.specs.declared.CheckAnswer.{CheckAnswer}

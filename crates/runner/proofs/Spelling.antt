@@ -10,7 +10,7 @@ use lib.ListN.{length, take, length-take}
 use Rattle.definition.specs.Answers as definition
 use Rattle.definition.specs.Runner.{ascii, decimal, padded, hex, words, answerLine, runnerLine}
 use Rattle.image.specs.Answer.{Slices, numberOf, short}
-use Rattle.image.specs.declared.Reason as refusal
+use Rattle.image_records.specs.declared.Reason as refusal
 use Rattle.vm_acts.specs.Reasons.{reasonNumber}
 use Rattle.vm_acts.specs.declared.StopReason.{StopReason}
 use Rattle.rl_vm.specs.Run.{Own, anyShort, runShort, answerOf, Runs, Written}
