@@ -74,7 +74,8 @@ fn sheet_lines(machine: &mut Machine) {
     let count = same_value("pickup", &image, &built, machine);
     assert_eq!(machine.check(&image), CheckAnswer::Pass);
     let mut result = vec![0; ROOM];
-    let mut least = [f64::INFINITY; 4];
+    let mut memory = vec![0u8; Machine::RUN_BYTES];
+    let mut least = [f64::INFINITY; 5];
     for _ in 0..ROUNDS {
         let times = [
             many(|| {
@@ -90,17 +91,22 @@ fn sheet_lines(machine: &mut Machine) {
             many(|| {
                 black_box(machine.check(black_box(&image)));
             }),
+            many(|| black_box(&mut memory).fill(0)),
         ];
         for (least, time) in least.iter_mut().zip(times) {
             *least = least.min(time);
         }
     }
-    let [run, built, loaded, check] = least;
+    let [run, built, loaded, check, clearing] = least;
     println!("sheets/pickup, {count} instructions, microseconds for one of {SHEET_RUNS} runs:");
     println!("  the machine, load and run and clear     {run:>8.2}");
     println!("  the Rust, run alone                     {built:>8.2}");
     println!("  the Rust, load by the model, build, run {loaded:>8.2}");
     println!("  the machine, load and check and clear   {check:>8.2}");
+    println!(
+        "  to clear {} bytes, as a run does    {clearing:>8.2}",
+        Machine::RUN_BYTES
+    );
 }
 
 /// Microseconds for one of many.

@@ -97,6 +97,10 @@ impl Machine {
     pub const RUN_LEAST: &[(&str, usize)] = RunWork::LEAST;
     /// The same for `check`.
     pub const CHECK_LEAST: &[(&str, usize)] = CheckWork::LEAST;
+    /// How much memory that is, in bytes, for `run`.
+    pub const RUN_BYTES: usize = RunWork::BYTES;
+    /// The same for `check`.
+    pub const CHECK_BYTES: usize = CheckWork::BYTES;
 
     /// A machine whose work slices have the least lengths.
     pub fn new() -> Machine {

@@ -23,6 +23,9 @@ macro_rules! exported {
             /// The name of each work slice and the least length that is not refused with 9.
             pub(crate) const LEAST: &[(&str, usize)] = &[$((stringify!($slice), $least)),*];
 
+            /// The bytes of all of them together.
+            pub(crate) const BYTES: usize = 0 $(+ $least * size_of::<$element>())*;
+
             /// Slices of the given lengths, in the order of `LEAST`, all zero.
             pub(crate) fn of(lengths: &[usize]) -> $work {
                 assert_eq!(lengths.len(), Self::LEAST.len(), "a length for each slice");
