@@ -12,10 +12,10 @@ use Rattle.image.specs.Answer.{numberOf, short}
 use Rattle.image_records.specs.declared.Reason as refusal
 use Rattle.stack_check.specs.Answer.{reasonNumber}
 use Rattle.stack_check.specs.declared.Reason as fault
-use Rattle.rl_vm.specs.Work.{CheckWork, checkShort}
-use Rattle.rl_vm.specs.Check.{answerOf, Checks}
-use Rattle.rl_vm.specs.declared.CheckAnswer.{CheckAnswer}
-use Rattle.rl_vm.specs.declared.CheckAnswer.the-variants.{Refused, Pass, Fault}
+use Rattle.vm_check.specs.Work.{CheckWork, checkShort}
+use Rattle.vm_check.specs.Check.{answerOf, Checks}
+use Rattle.vm_check.specs.declared.CheckAnswer.{CheckAnswer}
+use Rattle.vm_check.specs.declared.CheckAnswer.the-variants.{Refused, Pass, Fault}
 use Rattle.lines_out.specs.Puts.{Puts}
 use Rattle.checker.specs.Line.{checkerLine, Says}
 

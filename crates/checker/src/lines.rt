@@ -5,7 +5,7 @@ ghost use Prim.Native.Nat.{_≤_};
 ghost use lib.ListN.{length};
 ghost use Rattle.definition.specs.Runner.{ascii, decimal, padded, words};
 ghost use Rattle.lines_out.specs.Puts.{Puts};
-ghost use Rattle.rl_vm.specs.Check.{answerOf};
+ghost use Rattle.vm_check.specs.Check.{answerOf};
 ghost use Rattle.checker.specs.Line.{checkerLine};
 use lines_out::put;
 use lines_out::put_decimal;

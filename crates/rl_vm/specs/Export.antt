@@ -2,34 +2,10 @@
 use mathlib.Core.Path.{_≡_}
 use mathlib.Core.List.{List}
 use Prim.Native.Nat.{ℕ}
-use Rattle.image.specs.Answer.{numberOf}
-use Rattle.stack_check.specs.Answer.{reasonNumber}
-use Rattle.rl_vm.specs.Work.{CheckWork}
-use Rattle.rl_vm.specs.Check.{Checks}
-use Rattle.rl_vm.specs.declared.CheckAnswer.{CheckAnswer}
-use Rattle.rl_vm.specs.declared.CheckAnswer.the-variants.{Refused, Pass, Fault}
-
--- document 01's number; 0 for a pass
-abbrev pub checkNumber : CheckAnswer → ℕ
-checkNumber (Refused r k) = numberOf r
-checkNumber Pass = 0
-checkNumber (Fault r c p) = reasonNumber r
-
--- the line of a refusal, the chunk and the offset of a fault; else 0
-abbrev pub checkLine : CheckAnswer → ℕ
-checkLine (Refused r k) = k
-checkLine Pass = 0
-checkLine (Fault r c p) = 0
-
-abbrev pub checkChunk : CheckAnswer → ℕ
-checkChunk (Refused r k) = 0
-checkChunk Pass = 0
-checkChunk (Fault r c p) = c
-
-abbrev pub checkOffset : CheckAnswer → ℕ
-checkOffset (Refused r k) = 0
-checkOffset Pass = 0
-checkOffset (Fault r c p) = p
+use Rattle.vm_check.specs.Work.{CheckWork}
+use Rattle.vm_check.specs.Check.{Checks}
+use Rattle.vm_check.specs.Numbers.{checkNumber, checkLine, checkChunk, checkOffset}
+use Rattle.vm_check.specs.declared.CheckAnswer.{CheckAnswer}
 
 -- the four numbers are those of what `check` answers to these bytes in slices of these lengths
 pub record ChecksAs (bytes : List ℕ) (w : CheckWork) (number line chunk offset : ℕ) : Type 0 where

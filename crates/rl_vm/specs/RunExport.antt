@@ -2,44 +2,10 @@
 use mathlib.Core.Path.{_≡_}
 use mathlib.Core.List.{List}
 use Prim.Native.Nat.{ℕ}
-use Rattle.image.specs.Answer.{Slices, numberOf}
-use Rattle.vm_acts.specs.Reasons.{reasonNumber}
-use Rattle.rl_vm.specs.Run.{Own, Runs}
-use Rattle.rl_vm.specs.declared.machine.RunAnswer.{RunAnswer}
-use Rattle.rl_vm.specs.declared.machine.RunAnswer.the-variants.{Refused, Value, Stop}
-
--- document 01's number; 0 for a value
-abbrev pub runNumber : RunAnswer → ℕ
-runNumber (Refused r k) = numberOf r
-runNumber (Value n size) = 0
-runNumber (Stop reason n c p) = reasonNumber reason
-
--- the count of instructions begun; 0 for a refusal
-abbrev pub runCount : RunAnswer → ℕ
-runCount (Refused r k) = 0
-runCount (Value n size) = n
-runCount (Stop reason n c p) = n
-
--- how many bytes of the result slice a value has, the line of a refusal, the chunk and the offset of a stop; else 0
-abbrev pub runLength : RunAnswer → ℕ
-runLength (Refused r k) = 0
-runLength (Value n size) = size
-runLength (Stop reason n c p) = 0
-
-abbrev pub runLine : RunAnswer → ℕ
-runLine (Refused r k) = k
-runLine (Value n size) = 0
-runLine (Stop reason n c p) = 0
-
-abbrev pub runChunk : RunAnswer → ℕ
-runChunk (Refused r k) = 0
-runChunk (Value n size) = 0
-runChunk (Stop reason n c p) = c
-
-abbrev pub runOffset : RunAnswer → ℕ
-runOffset (Refused r k) = 0
-runOffset (Value n size) = 0
-runOffset (Stop reason n c p) = p
+use Rattle.image.specs.Answer.{Slices}
+use Rattle.vm_run.specs.Run.{Own, Runs}
+use Rattle.vm_run.specs.Numbers.{runNumber, runCount, runLength, runLine, runChunk, runOffset}
+use Rattle.vm_run.specs.declared.RunAnswer.{RunAnswer}
 
 -- the six numbers are those of what `run` answers to these bytes with this budget, in work slices m and o, with the result slice before and after
 pub record RunsAs (bytes : List ℕ) (budget : ℕ) (m : Slices) (o : Own) (before after : List ℕ) (number count size line chunk offset : ℕ) : Type 0 where

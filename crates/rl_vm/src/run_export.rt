@@ -1,15 +1,15 @@
 // `run` for C and Rust, in the way of `rl_vm_check`.
 ghost use Rattle.image.specs.Answer.{slices};
-ghost use Rattle.rl_vm.specs.Work.{LoadZero};
-ghost use Rattle.rl_vm.specs.Run.{own, OwnZero};
+ghost use Rattle.clearing.specs.Zero.{LoadZero};
+ghost use Rattle.vm_run.specs.Run.{own, OwnZero};
 ghost use Rattle.rl_vm.specs.RunExport.{RunsAs};
-use crate::machine::run;
-use crate::run_numbers::run_chunk;
-use crate::run_numbers::run_count;
-use crate::run_numbers::run_length;
-use crate::run_numbers::run_line;
-use crate::run_numbers::run_number;
-use crate::run_numbers::run_offset;
+use vm_run::run;
+use vm_run::run_chunk;
+use vm_run::run_count;
+use vm_run::run_length;
+use vm_run::run_line;
+use vm_run::run_number;
+use vm_run::run_offset;
 
 // `run`: 0 for a value, else document 01's number. The last five numbers are the count, the length of the coded value, the line of a refusal, and
 // the chunk and offset of a stop.

@@ -13,9 +13,9 @@ use Rattle.image.specs.Answer.{Slices, numberOf, short}
 use Rattle.image_records.specs.declared.Reason as refusal
 use Rattle.vm_acts.specs.Reasons.{reasonNumber}
 use Rattle.vm_acts.specs.declared.StopReason.{StopReason}
-use Rattle.rl_vm.specs.Run.{Own, anyShort, runShort, answerOf, Runs, Written}
-use Rattle.rl_vm.specs.declared.machine.RunAnswer.{RunAnswer}
-use Rattle.rl_vm.specs.declared.machine.RunAnswer.the-variants.{Refused, Value, Stop}
+use Rattle.vm_run.specs.Run.{Own, anyShort, runShort, answerOf, Runs, Written}
+use Rattle.vm_run.specs.declared.RunAnswer.{RunAnswer}
+use Rattle.vm_run.specs.declared.RunAnswer.the-variants.{Refused, Value, Stop}
 use Rattle.lines_out.specs.Puts.{Puts}
 use Rattle.runner.specs.Line.{Fits}
 

@@ -1,7 +1,7 @@
 -- Inner step of the runner: the bytes of a value lie in the result slice.
 use Prim.Native.Nat.{ℕ, _≤_}
-use Rattle.rl_vm.specs.declared.machine.RunAnswer.{RunAnswer}
-use Rattle.rl_vm.specs.declared.machine.RunAnswer.the-variants.{Refused, Value, Stop}
+use Rattle.vm_run.specs.declared.RunAnswer.{RunAnswer}
+use Rattle.vm_run.specs.declared.RunAnswer.the-variants.{Refused, Value, Stop}
 
 abbrev pub Fits : RunAnswer → ℕ → Type 0
 Fits (Refused r k) room = Unit {0}

@@ -1,3 +1,0 @@
-pub mod NoNine
-pub mod Checking
-pub mod Running

@@ -1,0 +1,79 @@
+use borrow.Author.Needs.{needs}
+use Rattle.vm_check.proofs.check_loaded.Statement.{statement}
+use Rattle.vm_check.proofs.check_loaded.Tie as tie
+use mathlib.Core.Path.{sym}
+use lib.Seq.{length-take-le}
+use Rattle.vm_check.proofs.Checking.{lent, passes-judged, fault-judged}
+
+slice-relend-prefix-check-image : tie.Need-slice-relend-prefix-check-image
+slice-relend-prefix-check-image c = search needs
+
+slice-aggregate-check-image : tie.Need-slice-aggregate-check-image
+slice-aggregate-check-image c = sym (length-take-le 4096 (c .before .before .before .before .before .before .before .args .heights .now) (c .before .before .before .before .before .before .before .pre .heights))
+
+slice-relend-prefix-check-image-2 : tie.Need-slice-relend-prefix-check-image-2
+slice-relend-prefix-check-image-2 c = search needs
+
+slice-aggregate-check-image-2 : tie.Need-slice-aggregate-check-image-2
+slice-aggregate-check-image-2 c = sym (length-take-le 4096 (c .before .before .before .before .before .before .before .before .args .depths .now) (c .before .before .before .before .before .before .before .before .pre .depths))
+
+slice-relend-prefix-check-image-3 : tie.Need-slice-relend-prefix-check-image-3
+slice-relend-prefix-check-image-3 c = search needs
+
+slice-aggregate-check-image-3 : tie.Need-slice-aggregate-check-image-3
+slice-aggregate-check-image-3 c = sym (length-take-le 4096 (c .before .before .before .before .before .before .before .before .before .args .todo .now) (c .before .before .before .before .before .before .before .before .before .pre .todo))
+
+check-image-requires : tie.Need-check-image-requires
+check-image-requires c κs = lent (c .before .before .before .before .before .before .before .before .before .pre) (length-take-le 4096 (c .before .before .before .before .before .before .before .before .before .args .heights .now) (c .before .before .before .before .before .before .before .before .before .pre .heights)) (length-take-le 4096 (c .before .before .before .before .before .before .before .before .before .args .depths .now) (c .before .before .before .before .before .before .before .before .before .pre .depths)) (length-take-le 4096 (c .before .before .before .before .before .before .before .before .before .args .todo .now) (c .before .before .before .before .before .before .before .before .before .pre .todo))
+
+enum-told : tie.Need-enum-told
+enum-told c = search needs
+
+enum-known-why : tie.Need-enum-known-why
+enum-known-why c = search needs
+
+same-length : tie.Need-same-length
+same-length c = search needs
+
+same-length-2 : tie.Need-same-length-2
+same-length-2 c = search needs
+
+same-length-3 : tie.Need-same-length-3
+same-length-3 c = search needs
+
+returns : tie.Need-returns
+returns c = passes-judged (c .before .before .before .before .before .before .before .before .check-image .result) (c .enum-told .given .1) ((c .before .before .before .before .before .before .before .before .check-image .ensures) .0)
+
+same-length-4 : tie.Need-same-length-4
+same-length-4 c = search needs
+
+same-length-5 : tie.Need-same-length-5
+same-length-5 c = search needs
+
+same-length-6 : tie.Need-same-length-6
+same-length-6 c = search needs
+
+returns-2 : tie.Need-returns-2
+returns-2 c = fault-judged (c .before .before .before .before .before .before .before .before .before .check-image .result) _ _ _ (c .before .why .given .1) ((c .before .before .before .before .before .before .before .before .before .check-image .ensures) .0)
+
+pub check-loaded-spec : {M : Type 1} → statement M
+check-loaded-spec =
+    tie.close
+    (tie.spec
+    slice-relend-prefix-check-image
+    slice-aggregate-check-image
+    slice-relend-prefix-check-image-2
+    slice-aggregate-check-image-2
+    slice-relend-prefix-check-image-3
+    slice-aggregate-check-image-3
+    check-image-requires
+    enum-told
+    enum-known-why
+    same-length
+    same-length-2
+    same-length-3
+    returns
+    same-length-4
+    same-length-5
+    same-length-6
+    returns-2)
