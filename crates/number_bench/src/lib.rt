@@ -54,7 +54,7 @@ pub extern "C" fn bench_add(n: u64, kind: u8, first: u64, second: u64, last: &mu
     let mut acc = number(kind, first);
     let operand = number(kind, second);
     while i < n {
-        match numbers::add(acc, operand) {
+        match number_arithmetic::add(acc, operand) {
             NumberAnswer::Value(y) => {
                 acc = y;
             }
@@ -76,7 +76,7 @@ pub extern "C" fn bench_sub(n: u64, kind: u8, first: u64, second: u64, last: &mu
     let mut acc = number(kind, first);
     let operand = number(kind, second);
     while i < n {
-        match numbers::sub(acc, operand) {
+        match number_arithmetic::sub(acc, operand) {
             NumberAnswer::Value(y) => {
                 acc = y;
             }
@@ -98,7 +98,7 @@ pub extern "C" fn bench_mul(n: u64, kind: u8, first: u64, second: u64, last: &mu
     let mut acc = number(kind, first);
     let operand = number(kind, second);
     while i < n {
-        match numbers::mul(acc, operand) {
+        match number_arithmetic::mul(acc, operand) {
             NumberAnswer::Value(y) => {
                 acc = y;
             }
@@ -121,7 +121,10 @@ pub extern "C" fn bench_less(n: u64, kind: u8, second: u64, last: &mut u64) -> u
     let mut acc: u64 = *last;
     let bound = number(kind, second);
     while i < n {
-        acc = std::num::wrapping_add_u64(acc, pace(numbers::less(number(kind, acc), bound)));
+        acc = std::num::wrapping_add_u64(
+            acc,
+            pace(number_comparison::less(number(kind, acc), bound)),
+        );
         i += 1;
     }
     *last = acc;
@@ -136,8 +139,11 @@ pub extern "C" fn bench_cast(n: u64, kind: u8, first: u64, last: &mut u64) -> u6
     let mut i: u64 = 0;
     let mut acc = number(kind, first);
     while i < n {
-        acc = value_or(numbers::cast(CastTarget::ToFloat, acc), acc);
-        acc = value_or(numbers::cast(CastTarget::ToInteger(IntKind::I64), acc), acc);
+        acc = value_or(number_casts::cast(CastTarget::ToFloat, acc), acc);
+        acc = value_or(
+            number_casts::cast(CastTarget::ToInteger(IntKind::I64), acc),
+            acc,
+        );
         i += 1;
     }
     *last = number_codes::payload_of(acc);

@@ -54,20 +54,20 @@ fn comparison_coded(answer: ComparisonAnswer) -> Worked {
 
 fn arithmetic(op: u64, x: Number, y: Number) -> Worked {
     match op {
-        1 => number_coded(numbers::add(x, y)),
-        2 => number_coded(numbers::sub(x, y)),
-        3 => number_coded(numbers::mul(x, y)),
-        4 => number_coded(numbers::div(x, y)),
+        1 => number_coded(number_arithmetic::add(x, y)),
+        2 => number_coded(number_arithmetic::sub(x, y)),
+        3 => number_coded(number_arithmetic::mul(x, y)),
+        4 => number_coded(number_arithmetic::div(x, y)),
         _ => Worked::Malformed,
     }
 }
 
 fn comparison(op: u64, x: Number, y: Number) -> Worked {
     match op {
-        9 => comparison_coded(numbers::less(x, y)),
-        10 => comparison_coded(numbers::less_eq(x, y)),
-        11 => comparison_coded(numbers::greater(x, y)),
-        12 => comparison_coded(numbers::greater_eq(x, y)),
+        9 => comparison_coded(number_comparison::less(x, y)),
+        10 => comparison_coded(number_comparison::less_eq(x, y)),
+        11 => comparison_coded(number_comparison::greater(x, y)),
+        12 => comparison_coded(number_comparison::greater_eq(x, y)),
         _ => Worked::Malformed,
     }
 }
@@ -94,14 +94,14 @@ fn number(kind: u64, word: u64) -> FoundNumber {
 
 fn cast(x: Number, target: u64) -> Worked {
     match number_codes::cast_target(target) {
-        FoundTarget::Target(t) => number_coded(numbers::cast(t, x)),
+        FoundTarget::Target(t) => number_coded(number_casts::cast(t, x)),
         FoundTarget::NoTarget => Worked::Malformed,
     }
 }
 
 fn negate(x: Number, second: u64) -> Worked {
     if second == 0 {
-        number_coded(numbers::negate(x))
+        number_coded(number_arithmetic::negate(x))
     } else {
         Worked::Malformed
     }

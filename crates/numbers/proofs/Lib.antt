@@ -2,8 +2,4 @@ pub mod Signs
 pub mod Ranges
 pub mod Wrap
 pub mod Sums
-pub mod Native
-pub mod Orders
 pub mod Pairs
-pub mod Whole
-pub mod CastLaws

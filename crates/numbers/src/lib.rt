@@ -1,30 +1,21 @@
-// The numbers of the machine: ten kinds, their arithmetic, negation, ordered comparison and casts.
+// The numbers of the machine: ten kinds, what an operation on them answers, and a number taken apart. `number_arithmetic`,
+// `number_comparison` and `number_casts` have the operations.
 // The eight integer kinds share one way, by sign and magnitude, so that each rule is written and proved once for every width.
 mod answers;
-mod arithmetic;
-mod casts;
-mod comparison;
 mod integers;
-mod negation;
 mod operands;
 
 pub use answers::comparison_fault;
 pub use answers::fault_number;
-pub use arithmetic::add;
-pub use arithmetic::div;
-pub use arithmetic::mul;
-pub use arithmetic::sub;
-pub use casts::cast;
-pub use comparison::compare;
-pub use comparison::greater;
-pub use comparison::greater_eq;
-pub use comparison::less;
-pub use comparison::less_eq;
+pub use integers::checked;
+pub use integers::in_range;
+pub use integers::int_kind_code;
+pub use integers::is_signed;
 pub use integers::number_of_word;
 pub use integers::word_of;
-pub use negation::negate;
 pub use operands::kind_code;
 pub use operands::operand_of;
+pub use operands::pair_of;
 
 pub enum Number {
     Int(i64),

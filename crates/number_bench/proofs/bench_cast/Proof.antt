@@ -12,7 +12,7 @@ use Rattle.number_bench.proofs.bench_cast.Lts as lts
 use Rattle.number_bench.proofs.number.Reads as number-reads
 use Rattle.number_bench.proofs.value_or.Reads as value-or-reads
 use Rattle.number_codes.proofs.payload_of.Reads as payload-of-reads
-use Rattle.numbers.proofs.cast.Reads as cast-reads
+use Rattle.number_casts.proofs.cast.Reads as cast-reads
 
 abbrev Inv-loop : tie.InvT-loop
 Inv-loop n kind first last i₀ acc₀ i acc = (i ≤ n) × (steps thereAndBack i acc₀ ≡ acc)

@@ -11,7 +11,7 @@ use Rattle.number_bench.proofs.bench_less.Reads as reads
 use Rattle.number_bench.proofs.bench_less.Lts as lts
 use Rattle.number_bench.proofs.number.Reads as number-reads
 use Rattle.number_bench.proofs.pace.Reads as pace-reads
-use Rattle.numbers.proofs.less.Reads as less-reads
+use Rattle.number_comparison.proofs.less.Reads as less-reads
 use Rattle.std.proofs.num.wrapping_add_u64.Reads as wrapping-add-u64-reads
 
 abbrev Inv-loop : tie.InvT-loop

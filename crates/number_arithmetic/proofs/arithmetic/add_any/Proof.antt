@@ -1,0 +1,58 @@
+-- `numbers::arithmetic::add_any` meets its contract: each arm is one of the definition's. Assumes nothing.
+use borrow.Author.Needs.{needs}
+use mathlib.Core.Path.{_≡_, refl, sym, ap, _∙_}
+use lib.IntN.{_+ℤ_}
+use lib.Ieee as Ieee
+use Rattle.numbers.specs.declared.NumberAnswer.{NumberAnswer}
+use Rattle.numbers.specs.Scalars.{ScalarPair, operandPair}
+use Rattle.numbers.specs.Arithmetic.{arithmetic, checked}
+use Rattle.number_arithmetic.proofs.arithmetic.add_any.Statement.{statement}
+use Rattle.number_arithmetic.proofs.arithmetic.add_any.Tie as tie
+
+abbrev rule : ScalarPair → NumberAnswer
+rule = arithmetic (λ k x y. checked k (x +ℤ y)) Ieee.add
+
+pair-of-requires : tie.Need-pair-of-requires
+pair-of-requires c κs = search needs
+
+enum-known-k : tie.Need-enum-known-k
+enum-known-k c = search needs
+
+add-integers-requires : tie.Need-add-integers-requires
+add-integers-requires c κs = search needs
+
+enum-known-p : tie.Need-enum-known-p
+enum-known-p c = search needs
+
+enum-known-p-2 : tie.Need-enum-known-p-2
+enum-known-p-2 c = search needs
+
+enum-told : tie.Need-enum-told
+enum-told c = search needs
+
+returns : tie.Need-returns
+returns c = (c .add-integers .ensures) ∙ ap rule (sym (ap operandPair (c .before .before .k .given .1)) ∙ (c .before .before .before .before .pair-of .ensures))
+
+returns-2 : tie.Need-returns-2
+returns-2 c = ap rule (sym (ap operandPair (c .before .p .given .1)) ∙ (c .before .before .before .pair-of .ensures))
+
+returns-3 : tie.Need-returns-3
+returns-3 c = ap rule (sym (ap operandPair (c .before .p2 .given .1)) ∙ (c .before .before .before .pair-of .ensures))
+
+returns-4 : tie.Need-returns-4
+returns-4 c = ap rule (sym (ap operandPair (c .enum-told .given .1)) ∙ (c .before .before .pair-of .ensures))
+
+pub add-any-spec : {M : Type 1} → statement M
+add-any-spec =
+    tie.close
+    (tie.spec
+    pair-of-requires
+    enum-known-k
+    add-integers-requires
+    enum-known-p
+    enum-known-p-2
+    enum-told
+    returns
+    returns-2
+    returns-3
+    returns-4)

@@ -1,0 +1,57 @@
+-- `numbers::arithmetic::div` meets its contract: each arm is one of the definition's. Assumes nothing.
+use borrow.Author.Needs.{needs}
+use mathlib.Core.Path.{_≡_, refl, sym, ap, _∙_}
+use lib.Ieee as Ieee
+use Rattle.numbers.specs.declared.NumberAnswer.{NumberAnswer}
+use Rattle.numbers.specs.Scalars.{ScalarPair, operandPair}
+use Rattle.numbers.specs.Arithmetic.{arithmetic, checkedDiv}
+use Rattle.number_arithmetic.proofs.arithmetic.div.Statement.{statement}
+use Rattle.number_arithmetic.proofs.arithmetic.div.Tie as tie
+
+abbrev rule : ScalarPair → NumberAnswer
+rule = arithmetic checkedDiv Ieee.div
+
+pair-of-requires : tie.Need-pair-of-requires
+pair-of-requires c κs = search needs
+
+enum-known-k : tie.Need-enum-known-k
+enum-known-k c = search needs
+
+div-integers-requires : tie.Need-div-integers-requires
+div-integers-requires c κs = search needs
+
+enum-known-p : tie.Need-enum-known-p
+enum-known-p c = search needs
+
+enum-known-p-2 : tie.Need-enum-known-p-2
+enum-known-p-2 c = search needs
+
+enum-told : tie.Need-enum-told
+enum-told c = search needs
+
+returns : tie.Need-returns
+returns c = (c .div-integers .ensures) ∙ ap rule (sym (ap operandPair (c .before .before .k .given .1)) ∙ (c .before .before .before .before .pair-of .ensures))
+
+returns-2 : tie.Need-returns-2
+returns-2 c = ap rule (sym (ap operandPair (c .before .p .given .1)) ∙ (c .before .before .before .pair-of .ensures))
+
+returns-3 : tie.Need-returns-3
+returns-3 c = ap rule (sym (ap operandPair (c .before .p2 .given .1)) ∙ (c .before .before .before .pair-of .ensures))
+
+returns-4 : tie.Need-returns-4
+returns-4 c = ap rule (sym (ap operandPair (c .enum-told .given .1)) ∙ (c .before .before .pair-of .ensures))
+
+pub div-spec : {M : Type 1} → statement M
+div-spec =
+    tie.close
+    (tie.spec
+    pair-of-requires
+    enum-known-k
+    div-integers-requires
+    enum-known-p
+    enum-known-p-2
+    enum-told
+    returns
+    returns-2
+    returns-3
+    returns-4)

@@ -1,0 +1,36 @@
+-- `numbers::arithmetic::mul_integers` meets its contract: a product that does not fit 64 bits is past every kind. Assumes nothing.
+use borrow.Author.Needs.{needs}
+use mathlib.Core.Path.{_≡_, refl, sym, ap, _∙_}
+use Prim.Native.Nat.{_*_, _^_, _≤_}
+use lib.Ieee.{unlike}
+use Rattle.numbers.specs.Arithmetic.{checked}
+use Rattle.numbers.proofs.Sums.{product, product-zero, product-fits, product-past, positive}
+use Rattle.numbers.proofs.Ranges.{beyond}
+use Rattle.number_arithmetic.proofs.arithmetic.mul_integers.Statement.{statement}
+use Rattle.number_arithmetic.proofs.arithmetic.mul_integers.Tie as tie
+
+checked-requires : tie.Need-checked-requires
+checked-requires c κs = search needs
+
+returns : tie.Need-returns
+returns c = (c .checked .ensures) ∙ sym (ap (checked (c .before .before .args .kind)) (product-zero (c .before .before .args .a .negative) (c .before .before .args .b .negative) (c .before .before .args .a .magnitude) (c .before .before .args .b .magnitude) (c .before .if1 .taken)))
+
+div-if2 : tie.Need-div-if2
+div-if2 c = search needs
+
+mul-t13 : tie.Need-mul-t13
+mul-t13 c = record { fits = product-fits (c .before .before .args .a .magnitude) (c .before .before .args .b .magnitude) (positive (c .before .before .args .a .magnitude) (c .before .if1 .left)) (c .if2 .taken) }
+
+checked-requires-2 : tie.Need-checked-requires-2
+checked-requires-2 c κs = search needs
+
+returns-2 : tie.Need-returns-2
+returns-2 c = (c .checked2 .ensures) ∙ sym (ap (checked (c .before .before .before .args .kind)) (product (c .before .before .before .args .a .negative) (c .before .before .before .args .b .negative) (c .before .before .before .args .a .magnitude) (c .before .before .before .args .b .magnitude)))
+
+returns-3 : tie.Need-returns-3
+returns-3 c = sym (ap (checked (c .before .before .args .kind)) (product (c .before .before .args .a .negative) (c .before .before .args .b .negative) (c .before .before .args .a .magnitude) (c .before .before .args .b .magnitude)) ∙ beyond (c .before .before .args .kind) (unlike (c .before .before .args .a .negative) (c .before .before .args .b .negative)) ((c .before .before .args .a .magnitude) * (c .before .before .args .b .magnitude)) (product-past (c .before .before .args .a .magnitude) (c .before .before .args .b .magnitude) (positive (c .before .before .args .a .magnitude) (c .before .if1 .left)) (c .if2 .left)))
+
+pub mul-integers-spec : {M : Type 1} → statement M
+mul-integers-spec =
+    tie.close
+    (tie.spec checked-requires returns div-if2 mul-t13 checked-requires-2 returns-2 returns-3)

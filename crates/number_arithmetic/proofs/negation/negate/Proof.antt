@@ -1,0 +1,70 @@
+-- `numbers::negation::negate` meets its contract: each arm is one of the definition's. Assumes nothing.
+use borrow.Author.Needs.{needs}
+use mathlib.Core.Path.{_≡_, refl, sym, ap, _∙_}
+use mathlib.Core.Bool.{Bool, true, false}
+use lib.IntN.{ℤ, negℤ}
+use Rattle.numbers.specs.declared.Number.{Number}
+use Rattle.numbers.specs.declared.NumberAnswer.the-variants.{Value, WrongKind}
+use Rattle.numbers.specs.declared.IntKind.{IntKind}
+use Rattle.numbers.specs.Kinds.{isSigned, asKind, wrapping}
+use Rattle.numbers.specs.Scalars.{integer, valueOf}
+use Rattle.numbers.specs.Answers.{pick}
+use Rattle.numbers.specs.Arithmetic.{negateOf, negateScalar}
+use Rattle.numbers.proofs.Pairs.{stands}
+use Rattle.number_arithmetic.proofs.negation.negate.Statement.{statement}
+use Rattle.number_arithmetic.proofs.negation.negate.Tie as tie
+
+serves : (k : IntKind) (z : ℤ) {r : Number} → isSigned k ≡ true → r ≡ asKind k (wrapping k (negℤ z)) → Value r ≡ negateScalar (integer k z)
+serves k z s e = ap Value e ∙ sym (ap (λ (b : Bool). pick b (Value (asKind k (wrapping k (negℤ z)))) WrongKind) s)
+
+serves-not : (k : IntKind) (z : ℤ) → isSigned k ≡ false → WrongKind ≡ negateScalar (integer k z)
+serves-not k z s = sym (ap (λ (b : Bool). pick b (Value (asKind k (wrapping k (negℤ z)))) WrongKind) s)
+
+operand-of-requires : tie.Need-operand-of-requires
+operand-of-requires c κs = search needs
+
+enum-known-k : tie.Need-enum-known-k
+enum-known-k c = search needs
+
+is-signed-requires : tie.Need-is-signed-requires
+is-signed-requires c κs = search needs
+
+negate-wrapping-requires : tie.Need-negate-wrapping-requires
+negate-wrapping-requires c κs = search needs
+
+enum-known-x : tie.Need-enum-known-x
+enum-known-x c = search needs
+
+enum-known-x-2 : tie.Need-enum-known-x-2
+enum-known-x-2 c = search needs
+
+returns : tie.Need-returns
+unfolding negateOf
+returns c = serves (c .before .before .before .before .k .given .0 .0) (valueOf (c .before .before .before .before .k .given .0 .1 .0)) (sym (c .before .before .is-signed .ensures) ∙ (c .before .if1 .taken)) (c .negate-wrapping .ensures) ∙ ap negateScalar (stands (c .before .before .before .before .before .before .before .args .a) (c .before .before .before .before .before .before .operand-of .result) (c .before .before .before .before .before .before .operand-of .ensures) (c .before .before .before .before .k .given .1))
+
+returns-2 : tie.Need-returns-2
+unfolding negateOf
+returns-2 c = serves-not (c .before .before .before .k .given .0 .0) (valueOf (c .before .before .before .k .given .0 .1 .0)) (sym (c .before .is-signed .ensures) ∙ (c .if1 .left)) ∙ ap negateScalar (stands (c .before .before .before .before .before .before .args .a) (c .before .before .before .before .before .operand-of .result) (c .before .before .before .before .before .operand-of .ensures) (c .before .before .before .k .given .1))
+
+returns-3 : tie.Need-returns-3
+unfolding negateOf
+returns-3 c = ap negateScalar (stands (c .before .before .before .before .args .a) (c .before .before .before .operand-of .result) (c .before .before .before .operand-of .ensures) (c .before .x .given .1))
+
+returns-4 : tie.Need-returns-4
+unfolding negateOf
+returns-4 c = ap negateScalar (stands (c .before .before .before .before .args .a) (c .before .before .before .operand-of .result) (c .before .before .before .operand-of .ensures) (c .before .x2 .given .1))
+
+pub negate-spec : {M : Type 1} → statement M
+negate-spec =
+    tie.close
+    (tie.spec
+    operand-of-requires
+    enum-known-k
+    is-signed-requires
+    negate-wrapping-requires
+    enum-known-x
+    enum-known-x-2
+    returns
+    returns-2
+    returns-3
+    returns-4)

@@ -1,0 +1,21 @@
+-- `numbers::casts::cast_integer` meets its contract. Assumes nothing.
+use borrow.Author.Needs.{needs}
+use Rattle.numbers.specs.Scalars.{valueOf}
+use Rattle.number_casts.proofs.cast_integer.Statement.{statement}
+use Rattle.number_casts.proofs.cast_integer.Tie as tie
+
+in-range-requires : tie.Need-in-range-requires
+in-range-requires c κs = search needs
+
+word-of-requires : tie.Need-word-of-requires
+word-of-requires c κs = search needs
+
+cast-word-requires : tie.Need-cast-word-requires
+cast-word-requires c κs = search needs
+
+returns : tie.Need-returns
+returns c = (c .cast-word .ensures) (valueOf (c .before .before .before .args .x)) (c .before .word-of .ensures) (c .before .before .in-range .ensures)
+
+pub cast-integer-spec : {M : Type 1} → statement M
+cast-integer-spec =
+    tie.close (tie.spec in-range-requires word-of-requires cast-word-requires returns)

@@ -1,0 +1,24 @@
+-- `numbers::comparison::is_below` meets its contract, by the signs. Assumes nothing.
+use mathlib.Core.Path.{_≡_, refl, sym, ap, _∙_}
+use Rattle.numbers.proofs.Signs.{value-neg, value-pos}
+use Rattle.number_comparison.proofs.Orders.{lt-nn, lt-pn, lt-np, lt-0p, under}
+use Rattle.number_comparison.proofs.is_below.Statement.{statement}
+use Rattle.number_comparison.proofs.is_below.Tie as tie
+
+returns : tie.Need-returns
+returns c = lt-nn (c .before .before .args .a .magnitude) (c .before .before .args .b .magnitude) ∙ under (value-neg (c .before .before .args .a) (c .before .if1 .taken)) (value-neg (c .before .before .args .b) (c .if2 .taken))
+
+returns-2 : tie.Need-returns-2
+returns-2 c = lt-np (c .before .before .before .args .a .magnitude) (c .before .before .before .args .b .magnitude) (c .if3 .taken) ∙ under (value-neg (c .before .before .before .args .a) (c .before .before .if1 .taken)) (value-pos (c .before .before .before .args .b) (c .before .if2 .left))
+
+returns-3 : tie.Need-returns-3
+returns-3 c = lt-0p (c .before .before .before .args .a .magnitude) (c .before .before .before .args .b .magnitude) (c .if3 .left) ∙ under (value-neg (c .before .before .before .args .a) (c .before .before .if1 .taken)) (value-pos (c .before .before .before .args .b) (c .before .if2 .left))
+
+returns-4 : tie.Need-returns-4
+returns-4 c = lt-pn (c .before .before .args .a .magnitude) (c .before .before .args .b .magnitude) ∙ under (value-pos (c .before .before .args .a) (c .before .if1 .left)) (value-neg (c .before .before .args .b) (c .if4 .taken))
+
+returns-5 : tie.Need-returns-5
+returns-5 c = under (value-pos (c .before .before .args .a) (c .before .if1 .left)) (value-pos (c .before .before .args .b) (c .if4 .left))
+
+pub is-below-spec : {M : Type 1} → statement M
+is-below-spec = tie.close (tie.spec returns returns-2 returns-3 returns-4 returns-5)
