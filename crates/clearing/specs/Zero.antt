@@ -1,11 +1,9 @@
--- The work memory that every operation is lent for `load`: "All work memory is zero after every operation."
-use Rattle.image.specs.Answer.{Slices}
-use Rattle.stack_check.specs.Answer.{AllZero}
+-- "All work memory is zero after every operation."
+use mathlib.Core.Path.{_≡_}
+use mathlib.Core.List.{List}
+use Prim.Native.Nat.{ℕ}
+use lib.ListN.{getD}
 
--- the slices that `load` works in, each zero to its end
-pub record LoadZero (m : Slices) : Type 0 where
-  pub bytes : AllZero (m .bytes)
-  pub ends : AllZero (m .ends)
-  pub kinds : AllZero (m .kinds)
-  pub payloads : AllZero (m .payloads)
-  pub table : AllZero (m .table)
+-- a slice that is zero to its end
+abbrev pub AllZero : List ℕ → Type 0
+AllZero l = (i : ℕ) → getD l i 0 ≡ 0

@@ -3,7 +3,7 @@ mod export; // `check` for C and Rust
 mod run_export; // `run` for C and Rust
 
 pub use export::rl_vm_check;
-pub use refusals::refusal_number;
+pub use loading::refusal_number;
 pub use run_export::rl_vm_run;
 pub use vm_check::CheckAnswer;
 pub use vm_check::check;

@@ -1,6 +1,6 @@
 // `run` for C and Rust, in the way of `rl_vm_check`.
 ghost use Rattle.image.specs.Answer.{slices};
-ghost use Rattle.clearing.specs.Zero.{LoadZero};
+ghost use Rattle.loading.specs.Zero.{LoadZero};
 ghost use Rattle.vm_run.specs.Run.{own, OwnZero};
 ghost use Rattle.rl_vm.specs.RunExport.{RunsAs};
 use vm_run::run;

@@ -5,10 +5,10 @@ use mathlib.Core.Logic.{_⊎_, inl, inr, ⊎-elim}
 use Prim.Native.Nat.{ℕ, zero, suc, _+_, _-_, _≤_, _<_}
 use native.Mathlib.Nat.{le-of-suc-le-suc, not-suc-le-zero}
 use native.Mathlib.Numerals.{add-one}
-use native.Mathlib.Decide.{ℕ-discrete, decLt}
 use native.Mathlib.Omega.{arith}
 use lib.ListN.{length, getD, set, length-set}
 use lib.Seq.{getD-set-same, getD-set-other}
+use Rattle.clearing.proofs.Orders.{same-or, below-or, below-next}
 use Rattle.definition.specs.Image.{Chunk}
 use Rattle.definition.specs.Decode.{fault}
 use Rattle.stack_check.specs.Node.{nodeAt}
@@ -25,13 +25,6 @@ positive n h = omega arith
 
 one-not-zero : _≡_ {A = ℕ} 1 0 → ⊥
 one-not-zero e = omega arith
-
-from-dec : {a b : ℕ} → Dec (a ≡ b) → (a ≡ b) ⊎ (a ≡ b → ⊥)
-from-dec (yes e) = inl e
-from-dec (no n) = inr n
-
-pub same-or : (a b : ℕ) → (a ≡ b) ⊎ (a ≡ b → ⊥)
-same-or a b = from-dec (ℕ-discrete a b)
 
 zeros-set : (l : List ℕ) (i v : ℕ) → i < length l → getD l i 0 ≡ 0 → zeros (set l i (v + 1)) + 1 ≡ zeros l
 unfolding zeros zero-at
@@ -412,16 +405,6 @@ module _
 -- the next offset is done
 abbrev pub advanced : Search → ℕ → Search
 advanced s low = record { head = s .head + 1; tail = s .tail; low = low; bad = s .bad }
-
-from-lt : {a b : ℕ} → Dec (a < b) → (a < b) ⊎ (b ≤ a)
-from-lt (yes l) = inl l
-from-lt (no n) = inr (omega arith)
-
-pub below-or : (a b : ℕ) → (a < b) ⊎ (b ≤ a)
-below-or a b = from-lt (decLt a b)
-
-pub below-next : (j i : ℕ) → j < i + 1 → (j < i) ⊎ (j ≡ i)
-below-next j i h = ⊎-elim (λ e. inr e) (λ n. inl (omega arith)) (same-or j i)
 
 module _ {c : Chunk} {hs ds ts : List ℕ} {s : Search} (P : Progress c hs ds ts s) (waits : s .head < s .tail) where
   pub progress-next :

@@ -18,7 +18,7 @@ use Rattle.stack_check.specs.declared.ChunkAnswer.the-variants as one
 use Rattle.stack_check.specs.declared.CheckAnswer.the-variants.{Pass, Fault}
 use Rattle.stack_check.proofs.Nodes.{kinds-back}
 use Rattle.stack_check.proofs.Alike.{answer-alike}
-use Rattle.stack_check.proofs.Theory.{below-next}
+use Rattle.clearing.proofs.Orders.{below-next}
 
 pub roomy-cut : {code hs ds ts : List ℕ} (k : Chunk) → code ≡ k .code → Roomy (length (k .code)) hs ds ts → Roomy (length code) hs ds ts
 roomy-cut k e R = record { heights = rw e (R .heights); depths = R .depths; todo = R .todo }

@@ -85,6 +85,3 @@ Decided bytes kinds table chunks r = (im : Image) → ImageHeld bytes kinds tabl
 -- the chunks below n pass, of every image that lies there
 abbrev pub PassBelow : List ℕ → List ℕ → List ℕ → ℕ → ℕ → Type 0
 PassBelow bytes kinds table chunks n = (im : Image) → ImageHeld bytes kinds table chunks im → (c : ℕ) → c < n → ChunkPasses (chunkAt im c)
-
-abbrev pub AllZero : List ℕ → Type 0
-AllZero l = (i : ℕ) → getD l i 0 ≡ 0

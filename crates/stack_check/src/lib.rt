@@ -8,13 +8,15 @@ ghost use Rattle.chunk.specs.Fault.{faultNumber};
 ghost use Rattle.stack_check.specs.Node.{turnOf, firstOf, secondOf, Drawn, NodeIs, Here, chunkOf};
 ghost use Rattle.stack_check.specs.Flat.{Goes};
 ghost use Rattle.stack_check.specs.Progress.{Progress, Coming, Visited, Spread, Handling, Tested, Listed};
-ghost use Rattle.stack_check.specs.Answer.{reasonNumber, ChunkIs, ChunkDecided, RowLent, RowDecided, Roomy, AllZero, Lent, Decided};
+ghost use Rattle.stack_check.specs.Answer.{reasonNumber, ChunkIs, ChunkDecided, RowLent, RowDecided, Roomy, Lent, Decided};
+ghost use Rattle.clearing.specs.Zero.{AllZero};
 use chunk::BackJump;
 use chunk::CodeCursor;
 use chunk::Flow;
 use chunk::Inspected;
 use chunk::Instr;
 use chunk::StaticFault;
+use clearing::clear_usize;
 
 // Why a chunk does not pass: what `chunk` can see of one instruction, or that no heights exist.
 pub enum Reason {
@@ -330,17 +332,6 @@ fn step(
     }
 }
 
-// Sets every element to 0.
-fn clear(a: &mut [usize])
-    ensures { λ r. ⌜ AllZero (now (a .exit)) ⌝ }
-{
-    let mut i = 0;
-    while i < a.len() {
-        a[i] = 0;
-        i += 1;
-    }
-}
-
 fn reason_of(f: StaticFault) -> Reason
     ensures { λ r. ⌜ reasonNumber r ≡ faultNumber f ⌝ }
 {
@@ -377,7 +368,7 @@ fn judge(
     if n == 0 {
         return ChunkAnswer::Pass;
     }
-    clear(heights);
+    clear_usize(heights);
     heights[0] = 1;
     depths[0] = 0;
     todo[0] = 0;
@@ -414,9 +405,9 @@ pub fn check_chunk(
     ensures cleared { λ r. ⌜ AllZero (now (heights .exit)) × AllZero (now (depths .exit)) × AllZero (now (todo .exit)) ⌝ }
 {
     let answer = judge(code, kinds, heights, depths, todo);
-    clear(heights);
-    clear(depths);
-    clear(todo);
+    clear_usize(heights);
+    clear_usize(depths);
+    clear_usize(todo);
     answer
 }
 
@@ -490,8 +481,8 @@ pub fn check_image(
     ensures cleared { λ r. ⌜ AllZero (now (heights .exit)) × AllZero (now (depths .exit)) × AllZero (now (todo .exit)) ⌝ }
 {
     let answer = judge_all(bytes, kinds, table, chunks, heights, depths, todo);
-    clear(heights);
-    clear(depths);
-    clear(todo);
+    clear_usize(heights);
+    clear_usize(depths);
+    clear_usize(todo);
     answer
 }

@@ -30,7 +30,7 @@ use Rattle.vm_check.specs.Work.{CheckWork, checkShort}
 use Rattle.vm_check.specs.Check.{answerOf, Checks, Ready, Judges}
 use Rattle.vm_check.specs.declared.CheckAnswer.{CheckAnswer}
 use Rattle.vm_check.specs.declared.CheckAnswer.the-variants.{Refused, Pass, Fault}
-use Rattle.refusals.proofs.NoNine.{never, nine, refused-by-nine, low-refusal}
+use Rattle.loading.proofs.NoNine.{never, nine, refused-by-nine, low-refusal}
 
 -- an image that `load` left in the slices, as the stack check takes it
 held-chunk : {m : Slices} {c : ℕ} {d : Chunk} → HeldChunk m c d → ChunkHeld (m .bytes) (m .kinds) (m .table) c d

@@ -5,8 +5,8 @@ use Prim.Native.Nat.{ℕ}
 use lib.ListN.{length}
 use lib.Dec.{ltb}
 use Rattle.image.specs.Answer.{Slices, short}
-use Rattle.stack_check.specs.Answer.{AllZero}
-use Rattle.clearing.specs.Zero.{LoadZero}
+use Rattle.clearing.specs.Zero.{AllZero}
+use Rattle.loading.specs.Zero.{LoadZero}
 
 -- the slices that `check` works in: those of `load`, and three for the stack check
 pub record CheckWork : Type 0 where

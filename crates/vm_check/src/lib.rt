@@ -9,10 +9,10 @@ pub use numbers_of::offset_of;
 ghost use Rattle.image.specs.Answer.{slices};
 ghost use Rattle.vm_check.specs.Work.{checkWork, CheckZero};
 ghost use Rattle.vm_check.specs.Check.{Checks, Ready, Judges};
-use clearing::clear_load;
 use clearing::clear_usize;
 use image::LoadAnswer;
 use image::load;
+use loading::clear_load;
 use stack_check::check_image;
 
 // What `check` answers: a refusal with its line, a pass, or the fault with chunk and offset. specs/Check.antt, `answerOf`, gives document 01's

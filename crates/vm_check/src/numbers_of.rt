@@ -3,7 +3,7 @@ ghost use mathlib.Core.Path.{_≡_};
 ghost use Rattle.stack_check.specs.Answer.{reasonNumber};
 ghost use Rattle.vm_check.specs.Numbers.{checkNumber, checkLine, checkChunk, checkOffset};
 use crate::CheckAnswer;
-use refusals::refusal_number;
+use loading::refusal_number;
 
 pub fn fault_number(r: stack_check::Reason) -> usize
     ensures { λ n. ⌜ n ≡ reasonNumber r ⌝ }

@@ -8,14 +8,14 @@ use Rattle.stack_check.proofs.Whole.{answer-for}
 judge-requires : tie.Need-judge-requires
 judge-requires c κs = search needs
 
-clear-requires : tie.Need-clear-requires
-clear-requires c κs = search needs
+clear-usize-requires : tie.Need-clear-usize-requires
+clear-usize-requires c κs = search needs
 
-clear-requires-2 : tie.Need-clear-requires-2
-clear-requires-2 c κs = search needs
+clear-usize-requires-2 : tie.Need-clear-usize-requires-2
+clear-usize-requires-2 c κs = search needs
 
-clear-requires-3 : tie.Need-clear-requires-3
-clear-requires-3 c κs = search needs
+clear-usize-requires-3 : tie.Need-clear-usize-requires-3
+clear-usize-requires-3 c κs = search needs
 
 same-length : tie.Need-same-length
 same-length c = search needs
@@ -27,16 +27,16 @@ same-length-3 : tie.Need-same-length-3
 same-length-3 c = search needs
 
 returns : tie.Need-returns
-returns c = (λ k e q. answer-for k (c .before .before .before .before .before .before .before .before .before .before .before .before .before .before .before .before .before .before .before .before .before .before .before .before .before .before .before .args .code .now) (c .before .before .before .before .before .before .before .before .before .before .before .before .before .before .before .before .before .before .before .before .before .before .before .before .before .before .before .args .kinds .now) (c .before .before .before .before .before .before .before .before .before .before .before .before .before .before .before .before .before .before .judge .result) (sym e) (sym q) (c .before .before .before .before .before .before .before .before .before .before .before .before .before .before .before .before .before .before .judge .ensures), ((c .before .before .before .before .before .before .before .before .before .before .clear .ensures), (c .before .before .before .before .before .before .clear2 .ensures), (c .before .before .clear3 .ensures)))
+returns c = (λ k e q. answer-for k (c .before .before .before .before .before .before .before .before .before .before .before .before .before .before .before .before .before .before .before .before .before .before .before .before .before .before .before .args .code .now) (c .before .before .before .before .before .before .before .before .before .before .before .before .before .before .before .before .before .before .before .before .before .before .before .before .before .before .before .args .kinds .now) (c .before .before .before .before .before .before .before .before .before .before .before .before .before .before .before .before .before .before .judge .result) (sym e) (sym q) (c .before .before .before .before .before .before .before .before .before .before .before .before .before .before .before .before .before .before .judge .ensures), ((c .before .before .before .before .before .before .before .before .before .before .clear-usize .ensures), (c .before .before .before .before .before .before .clear-usize2 .ensures), (c .before .before .clear-usize3 .ensures)))
 
 pub check-chunk-spec : {M : Type 1} → statement M
 check-chunk-spec =
     tie.close
     (tie.spec
     judge-requires
-    clear-requires
-    clear-requires-2
-    clear-requires-3
+    clear-usize-requires
+    clear-usize-requires-2
+    clear-usize-requires-3
     same-length
     same-length-2
     same-length-3

@@ -19,20 +19,20 @@ abbrev μ-loop : tie.MeasureT-loop
 returns : tie.Need-returns Inv-loop μ-loop
 returns c = let x = empty-passes (chunkOf (c .before .before .before .before .before .before .args .code .now) (c .before .before .before .before .before .before .args .kinds .now)) (c .if1 .taken) in passes (chunkOf (c .before .before .before .before .before .before .args .code .now) (c .before .before .before .before .before .before .args .kinds .now)) (x .0) (x .1 .0) (x .1 .1) (x .1 .2)
 
-clear-requires : tie.Need-clear-requires Inv-loop μ-loop
-clear-requires c κs = tt
+clear-usize-requires : tie.Need-clear-usize-requires Inv-loop μ-loop
+clear-usize-requires c κs = tt
 
 slice-write-heights : tie.Need-slice-write-heights Inv-loop μ-loop
-slice-write-heights c = omega (arith, positive _ (c .before .before .before .before .if1 .left), (c .before .before .clear .kept .0), (c .before .before .before .before .before .before .before .before .before .before .pre) .heights)
+slice-write-heights c = omega (arith, positive _ (c .before .before .before .before .if1 .left), (c .before .before .clear-usize .kept .0), (c .before .before .before .before .before .before .before .before .before .before .pre) .heights)
 
 slice-write-depths : tie.Need-slice-write-depths Inv-loop μ-loop
-slice-write-depths c = omega (arith, positive _ (c .before .before .before .before .if1 .left), (c .before .before .clear .kept .0), (c .before .before .before .before .before .before .before .before .before .before .pre) .heights, (c .before .before .before .before .before .before .before .before .before .before .pre) .depths)
+slice-write-depths c = omega (arith, positive _ (c .before .before .before .before .if1 .left), (c .before .before .clear-usize .kept .0), (c .before .before .before .before .before .before .before .before .before .before .pre) .heights, (c .before .before .before .before .before .before .before .before .before .before .pre) .depths)
 
 slice-write-todo : tie.Need-slice-write-todo Inv-loop μ-loop
-slice-write-todo c = omega (arith, positive _ (c .before .before .before .before .if1 .left), (c .before .before .clear .kept .0), (c .before .before .before .before .before .before .before .before .before .before .pre) .heights, (c .before .before .before .before .before .before .before .before .before .before .pre) .todo)
+slice-write-todo c = omega (arith, positive _ (c .before .before .before .before .if1 .left), (c .before .before .clear-usize .kept .0), (c .before .before .before .before .before .before .before .before .before .before .pre) .heights, (c .before .before .before .before .before .before .before .before .before .before .pre) .todo)
 
 loop-holds : tie.Need-loop-holds Inv-loop μ-loop
-loop-holds c = (progress-begun (chunkOf (c .before .before .before .before .before .before .before .before .before .before .args .code .now) (c .before .before .before .before .before .before .before .before .before .before .args .kinds .now)) (c .before .before .before .before .before .before .before .before .before .before .args .heights .now) (c .before .before .clear .last .0) (c .before .before .before .before .before .before .before .before .before .before .args .depths .now) (c .before .before .before .before .before .before .before .before .before .before .args .todo .now) (positive _ (c .before .before .before .before .if1 .left)) (c .before .before .clear .kept .0) ((c .before .before .before .before .before .before .before .before .before .before .pre) .heights) ((c .before .before .before .before .before .before .before .before .before .before .pre) .depths) ((c .before .before .before .before .before .before .before .before .before .before .pre) .todo) (c .before .before .clear .ensures), refl, refl, refl)
+loop-holds c = (progress-begun (chunkOf (c .before .before .before .before .before .before .before .before .before .before .args .code .now) (c .before .before .before .before .before .before .before .before .before .before .args .kinds .now)) (c .before .before .before .before .before .before .before .before .before .before .args .heights .now) (c .before .before .clear-usize .last .0) (c .before .before .before .before .before .before .before .before .before .before .args .depths .now) (c .before .before .before .before .before .before .before .before .before .before .args .todo .now) (positive _ (c .before .before .before .before .if1 .left)) (c .before .before .clear-usize .kept .0) ((c .before .before .before .before .before .before .before .before .before .before .pre) .heights) ((c .before .before .before .before .before .before .before .before .before .before .pre) .depths) ((c .before .before .before .before .before .before .before .before .before .before .pre) .todo) (c .before .before .clear-usize .ensures), refl, refl, refl)
 
 step-requires : tie.Need-step-requires Inv-loop μ-loop
 step-requires c κs = ((c .before .before .before .before .before .loop .inv .0), (c .before .before .before .if2 .taken))
@@ -47,7 +47,7 @@ fault-reason-requires : tie.Need-fault-reason-requires Inv-loop μ-loop
 fault-reason-requires c κs = (c .before .before .before .loop .inv .0) .found (c .if3 .taken) .1
 
 same-length : tie.Need-same-length Inv-loop μ-loop
-same-length c = (c .before .before .before .before .loop .inv .1) ∙ simp length-set (c .before .before .before .before .before .before .before .clear .kept .0)
+same-length c = (c .before .before .before .before .loop .inv .1) ∙ simp length-set (c .before .before .before .before .before .before .before .clear-usize .kept .0)
 
 same-length-2 : tie.Need-same-length-2 Inv-loop μ-loop
 same-length-2 c = (c .before .before .before .before .loop .inv .2) ∙ simp length-set
@@ -59,7 +59,7 @@ returns-2 : tie.Need-returns-2 Inv-loop μ-loop
 returns-2 c = lowest-to (chunkOf (c .before .before .before .before .before .before .before .before .before .before .before .before .before .before .before .args .code .now) (c .before .before .before .before .before .before .before .before .before .before .before .before .before .before .before .args .kinds .now)) _ _ (end-fault (c .before .before .before .before .loop .inv .0) (c .before .before .if2 .left) _ (c .fault-reason .ensures) (c .before .if3 .taken))
 
 same-length-4 : tie.Need-same-length-4 Inv-loop μ-loop
-same-length-4 c = (c .before .before .before .before .before .loop .inv .1) ∙ simp length-set (c .before .before .before .before .before .before .before .before .clear .kept .0)
+same-length-4 c = (c .before .before .before .before .before .loop .inv .1) ∙ simp length-set (c .before .before .before .before .before .before .before .before .clear-usize .kept .0)
 
 same-length-5 : tie.Need-same-length-5 Inv-loop μ-loop
 same-length-5 c = (c .before .before .before .before .before .loop .inv .2) ∙ simp length-set
@@ -71,7 +71,7 @@ returns-3 : tie.Need-returns-3 Inv-loop μ-loop
 returns-3 c = passes (chunkOf (c .before .before .before .before .before .before .before .before .before .before .before .before .before .before .before .before .args .code .now) (c .before .before .before .before .before .before .before .before .before .before .before .before .before .before .before .before .args .kinds .now)) (no-fault (c .before .before .before .before .before .loop .inv .0) (c .before .before .before .if2 .left) (c .before .before .if3 .left)) _ _ (end-right (c .before .before .before .before .before .loop .inv .0) (c .before .before .before .if2 .left) (c .if4 .taken))
 
 same-length-7 : tie.Need-same-length-7 Inv-loop μ-loop
-same-length-7 c = (c .before .before .before .before .before .loop .inv .1) ∙ simp length-set (c .before .before .before .before .before .before .before .before .clear .kept .0)
+same-length-7 c = (c .before .before .before .before .before .loop .inv .1) ∙ simp length-set (c .before .before .before .before .before .before .before .before .clear-usize .kept .0)
 
 same-length-8 : tie.Need-same-length-8 Inv-loop μ-loop
 same-length-8 c = (c .before .before .before .before .before .loop .inv .2) ∙ simp length-set
@@ -89,7 +89,7 @@ judge-spec =
     Inv-loop
     μ-loop
     returns
-    clear-requires
+    clear-usize-requires
     slice-write-heights
     slice-write-depths
     slice-write-todo
