@@ -9,15 +9,15 @@ mod list;
 ghost use mathlib.Core.Path.{_≡_};
 ghost use Prim.Native.Nat.{_≤_};
 ghost use Rattle.image.specs.Answer.{numberOf};
+use case_list::after;
+use case_list::line_end;
+use case_list::put;
 use image::LoadAnswer;
 use image::Reason;
 use image::load;
 use libc::STDOUT_FILENO;
-use list::after;
 use list::answer_mark;
 use list::image_end;
-use list::line_end;
-use list::put;
 use std::num::wrapping_add_u64;
 
 struct Tally {

@@ -3,14 +3,12 @@
 // A case is the image, byte for byte, and then a line `= BUDGET ROOM ANSWER`: the budget, the length of the result slice, and the runner's line,
 // `value COUNT RESULT`, `stop NUMBER COUNT CHUNK OFFSET` or `refused NUMBER LINE`. A line of another form after `=`, and what stands after the last
 // answer, are counted as malformed. The list is made by tests/stored, which says where its answers come from.
-mod list; // the lines of the list
-
 ghost use Prim.Native.Nat.{_≤_};
 ghost use lib.ListN.{length};
+use case_list::after;
+use case_list::line_end;
+use case_list::put;
 use libc::STDOUT_FILENO;
-use list::after;
-use list::line_end;
-use list::put;
 use rl_vm::RunAnswer;
 use rl_vm::refusal_number;
 use rl_vm::run;

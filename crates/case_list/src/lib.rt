@@ -1,4 +1,4 @@
-// The lines of the list. What these functions require, their callers in this program keep; no other crate can reach them.
+// For the programs that replay a list of cases: the lines of the list, and words put behind one another into a buffer.
 ghost use mathlib.Core.Path.{_≡_};
 ghost use Prim.Native.Nat.{_+_, _≤_, min};
 ghost use lib.ListN.{length};

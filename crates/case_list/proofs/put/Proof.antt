@@ -1,5 +1,5 @@
-use Rattle.load_replay.proofs.list.put.Statement.{statement}
-use Rattle.load_replay.proofs.list.put.Tie as tie
+use Rattle.case_list.proofs.put.Statement.{statement}
+use Rattle.case_list.proofs.put.Tie as tie
 use native.Mathlib.Omega.{arith}
 use mathlib.Core.Path.{_≡_, refl}
 use Prim.Native.Nat.{_-_, _≤_}

@@ -1,5 +1,5 @@
-use Rattle.run_replay.proofs.list.line_end.Statement.{statement}
-use Rattle.run_replay.proofs.list.line_end.Tie as tie
+use Rattle.case_list.proofs.line_end.Statement.{statement}
+use Rattle.case_list.proofs.line_end.Tie as tie
 use native.Mathlib.Omega.{arith}
 use Prim.Native.Nat.{_-_, _≤_}
 use lib.ListN.{length}
