@@ -10,18 +10,8 @@ ghost use Rattle.checker.specs.Line.{checkerLine};
 use lines_out::put;
 use lines_out::put_decimal;
 use lines_out::put_padded;
+use lines_out::put_refused;
 use rl_vm::CheckAnswer;
-
-fn refused(out: &mut [u8], number: usize, line: usize) -> usize
-    requires { ⌜ 96 ≤ length (now out) ⌝ }
-    ensures { λ r. ⌜ Puts (now (out .entry)) 0 (words (ascii "refused" ∷ decimal number ∷ decimal line ∷ [])) (now (out .exit)) r ⌝ }
-{
-    let a = put(out, 0, b"refused ");
-    let b = put_decimal(out, a, number);
-    let c = put(out, b, b" ");
-    let d = put_decimal(out, c, line);
-    put(out, d, b"\n")
-}
 
 fn fault(out: &mut [u8], number: usize, chunk: usize, offset: usize) -> usize
     requires { ⌜ 96 ≤ length (now out) ⌝ }
@@ -42,7 +32,7 @@ pub fn spell(a: CheckAnswer, out: &mut [u8]) -> usize
     ensures { λ r. ⌜ Puts (now (out .entry)) 0 (checkerLine (answerOf a)) (now (out .exit)) r ⌝ }
 {
     match a {
-        CheckAnswer::Refused(reason, line) => refused(out, rl_vm::refusal_number(reason), line),
+        CheckAnswer::Refused(reason, line) => put_refused(out, rl_vm::refusal_number(reason), line),
         CheckAnswer::Pass => put(out, 0, b"pass\n"),
         CheckAnswer::Fault(reason, chunk, offset) => fault(
             out,

@@ -1,9 +1,10 @@
 // The pieces of the lines that the programs print: a word, a number in decimal or padded with zeros to four digits, bytes in hexadecimal.
 // A program puts one piece behind another into a buffer. Numbers and bytes look as in the crate `definition`, specs/Runner.antt.
 ghost use mathlib.Core.Path.{_≡_};
+ghost use mathlib.Core.List.{[], _∷_};
 ghost use Prim.Native.Nat.{_+_, _*_, _/_, _%_, _≤_, _<_};
 ghost use lib.ListN.{length};
-ghost use Rattle.definition.specs.Runner.{decimal, padded, hexDigit, hex};
+ghost use Rattle.definition.specs.Runner.{ascii, decimal, padded, hexDigit, hex, words};
 ghost use Rattle.lines_out.specs.Puts.{Puts};
 
 // Puts `word` into `out` at `at`, and answers where it ends.
@@ -82,4 +83,16 @@ pub fn put_hex(out: &mut [u8], at: usize, bytes: &[u8]) -> usize
         i += 1;
     }
     to
+}
+
+// The line `refused NUMBER LINE` at the start of `out`, the same in both programs. It has at most 50 bytes.
+pub fn put_refused(out: &mut [u8], number: usize, line: usize) -> usize
+    requires { ⌜ 50 ≤ length (now out) ⌝ }
+    ensures { λ r. ⌜ Puts (now (out .entry)) 0 (words (ascii "refused" ∷ decimal number ∷ decimal line ∷ [])) (now (out .exit)) r ⌝ }
+{
+    let a = put(out, 0, b"refused ");
+    let b = put_decimal(out, a, number);
+    let c = put(out, b, b" ");
+    let d = put_decimal(out, c, line);
+    put(out, d, b"\n")
 }

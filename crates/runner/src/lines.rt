@@ -11,18 +11,8 @@ use lines_out::put;
 use lines_out::put_decimal;
 use lines_out::put_hex;
 use lines_out::put_padded;
+use lines_out::put_refused;
 use rl_vm::RunAnswer;
-
-fn refused(out: &mut [u8], number: usize, line: usize) -> usize
-    requires { ⌜ 96 ≤ length (now out) ⌝ }
-    ensures { λ r. ⌜ Puts (now (out .entry)) 0 (words (ascii "refused" ∷ decimal number ∷ decimal line ∷ [])) (now (out .exit)) r ⌝ }
-{
-    let a = put(out, 0, b"refused ");
-    let b = put_decimal(out, a, number);
-    let c = put(out, b, b" ");
-    let d = put_decimal(out, c, line);
-    put(out, d, b"\n")
-}
 
 fn value(out: &mut [u8], count: usize, result: &[u8]) -> usize
     requires { ⌜ 32 + 2 * length (now result) ≤ length (now out) ⌝ }
@@ -56,7 +46,7 @@ pub fn spell(a: RunAnswer, result: &[u8], out: &mut [u8]) -> usize
     ensures { λ r. ⌜ Puts (now (out .entry)) 0 (answerLine (answerOf a (now (result .entry)))) (now (out .exit)) r ⌝ }
 {
     match a {
-        RunAnswer::Refused(reason, line) => refused(out, rl_vm::refusal_number(reason), line),
+        RunAnswer::Refused(reason, line) => put_refused(out, rl_vm::refusal_number(reason), line),
         RunAnswer::Value { count, length } => value(out, count, &result[..length]),
         RunAnswer::Stop {
             reason,

@@ -9,8 +9,8 @@ enum-known-a c = search needs
 refusal-number-requires : tie.Need-refusal-number-requires
 refusal-number-requires c κs = search needs
 
-refused-requires : tie.Need-refused-requires
-refused-requires c κs = search needs
+put-refused-requires : tie.Need-put-refused-requires
+put-refused-requires c κs = search needs
 
 enum-told : tie.Need-enum-told
 enum-told c = search needs
@@ -34,7 +34,7 @@ same-length : tie.Need-same-length
 same-length c = search needs
 
 returns : tie.Need-returns
-returns c = refused-line (c .before .before .before .before .before .before .before .before .before .args .a) _ _ _ (c .before .before .before .before .before .before .a .given .1) (c .before .before .before .refusal-number .ensures) (c .before .before .refused .ensures)
+returns c = refused-line (c .before .before .before .before .before .before .before .before .before .args .a) _ _ _ (c .before .before .before .before .before .before .a .given .1) (c .before .before .before .refusal-number .ensures) (c .before .before .put-refused .ensures)
 
 same-length-2 : tie.Need-same-length-2
 same-length-2 c = search needs
@@ -54,7 +54,7 @@ spell-spec =
     (tie.spec
     enum-known-a
     refusal-number-requires
-    refused-requires
+    put-refused-requires
     enum-told
     slice-aggregate-put
     put-requires

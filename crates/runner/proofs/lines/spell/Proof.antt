@@ -2,6 +2,7 @@ use borrow.Author.Needs.{needs}
 use Rattle.runner.proofs.lines.spell.Statement.{statement}
 use Rattle.runner.proofs.lines.spell.Tie as tie
 use Rattle.runner.proofs.Spelling.{refused-line, value-line, stopped-line, size-fits, value-asks}
+use native.Mathlib.Omega.{arith}
 use mathlib.Core.Path.{sym}
 use lib.Seq.{length-take-le}
 
@@ -11,8 +12,8 @@ enum-known-a c = search needs
 refusal-number-requires : tie.Need-refusal-number-requires
 refusal-number-requires c κs = search needs
 
-refused-requires : tie.Need-refused-requires
-refused-requires c κs = (c .before .before .before .before .before .before .before .pre) .1
+put-refused-requires : tie.Need-put-refused-requires
+put-refused-requires c κs = omega (arith, (c .before .before .before .before .before .before .before .pre) .1)
 
 enum-known-a-2 : tie.Need-enum-known-a-2
 enum-known-a-2 c = search needs
@@ -36,7 +37,7 @@ same-length : tie.Need-same-length
 same-length c = search needs
 
 returns : tie.Need-returns
-returns c = refused-line (c .before .before .before .before .before .before .before .before .before .before .args .a) (c .before .before .before .before .before .before .before .before .before .before .args .result .now) _ _ _ (c .before .before .before .before .before .before .a .given .1) (c .before .before .before .refusal-number .ensures) (c .before .before .refused .ensures)
+returns c = refused-line (c .before .before .before .before .before .before .before .before .before .before .args .a) (c .before .before .before .before .before .before .before .before .before .before .args .result .now) _ _ _ (c .before .before .before .before .before .before .a .given .1) (c .before .before .before .refusal-number .ensures) (c .before .before .put-refused .ensures)
 
 same-length-2 : tie.Need-same-length-2
 same-length-2 c = search needs
@@ -56,7 +57,7 @@ spell-spec =
     (tie.spec
     enum-known-a
     refusal-number-requires
-    refused-requires
+    put-refused-requires
     enum-known-a-2
     slice-aggregate-value
     value-requires

@@ -1,7 +1,7 @@
 use borrow.Author.Needs.{needs}
-use Rattle.checker.proofs.lines.refused.Statement.{statement}
-use Rattle.checker.proofs.lines.refused.Tie as tie
+use Rattle.lines_out.proofs.put_refused.Statement.{statement}
+use Rattle.lines_out.proofs.put_refused.Tie as tie
 use Rattle.lines_out.proofs.Pieces.{then}
 
 slice-aggregate-put : tie.Need-slice-aggregate-put
 slice-aggregate-put c = search needs
@@ -37,8 +37,8 @@ returns c =
     let all = then (c .before .before .before .before .before .before .before .before .before .before .before .before .before .before .before .before .before .before .before .before .put .ensures) n in
     all
 
-pub refused-spec : {M : Type 1} → statement M
-refused-spec =
+pub put-refused-spec : {M : Type 1} → statement M
+put-refused-spec =
     tie.close
     (tie.spec
     slice-aggregate-put
