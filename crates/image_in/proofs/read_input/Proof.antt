@@ -6,7 +6,7 @@ use native.Mathlib.Omega.{arith}
 use lib.ListN.{length}
 use borrow.Author.Needs.{needs}
 use borrow.Rule.Slice.PartMut.{putMid, same-len-mid}
-use Rattle.image_in.proofs.Parts.{within}
+use Rattle.image_in.proofs.Parts.{within, counted}
 
 abbrev Inv-loop : tie.InvT-loop
 Inv-loop buf₀ at₀ buf at = (at ≤ length buf) × (length buf ≡ length buf₀)
@@ -41,17 +41,14 @@ part-count-end c = omega arith
 count-requires : tie.Need-count-requires Inv-loop μ-loop
 count-requires c κs = search needs
 
+without-more-requires : tie.Need-without-more-requires Inv-loop μ-loop
+without-more-requires c κs = search needs
+
 same-length : tie.Need-same-length Inv-loop μ-loop
 same-length c = (same-len-mid (c .before .before .before .before .before .before .before .before .before .before .loop .at) (length (c .before .before .before .before .before .before .before .before .before .before .loop .buf) - (c .before .before .before .before .before .before .before .before .before .before .loop .at)) (c .before .before .before .before .before .before .before .before .before .before .loop .buf) (c .before .before .before .before .before .before .before .read .last .1 .0) (c .before .before .before .before .before .before .before .read .kept .1 .0)) ∙ (c .before .before .before .before .before .before .before .before .before .before .loop .inv .1)
 
 returns : tie.Need-returns Inv-loop μ-loop
-returns c = search needs
-
-same-length-2 : tie.Need-same-length-2 Inv-loop μ-loop
-same-length-2 c = (same-len-mid (c .before .before .before .before .before .before .before .before .before .before .loop .at) (length (c .before .before .before .before .before .before .before .before .before .before .loop .buf) - (c .before .before .before .before .before .before .before .before .before .before .loop .at)) (c .before .before .before .before .before .before .before .before .before .before .loop .buf) (c .before .before .before .before .before .before .before .read .last .1 .0) (c .before .before .before .before .before .before .before .read .kept .1 .0)) ∙ (c .before .before .before .before .before .before .before .before .before .before .loop .inv .1)
-
-returns-2 : tie.Need-returns-2 Inv-loop μ-loop
-returns-2 c = search needs
+returns c = counted (c .without-more .result) (c .before .before .before .before .before .before .before .before .before .before .loop .at) _ (c .without-more .ensures .1) (rw (same-len-mid (c .before .before .before .before .before .before .before .before .before .before .loop .at) (length (c .before .before .before .before .before .before .before .before .before .before .loop .buf) - (c .before .before .before .before .before .before .before .before .before .before .loop .at)) (c .before .before .before .before .before .before .before .before .before .before .loop .buf) (c .before .before .before .before .before .before .before .read .last .1 .0) (c .before .before .before .before .before .before .before .read .kept .1 .0)) (c .before .before .before .before .before .before .before .before .before .before .loop .inv .0))
 
 add-at : tie.Need-add-at Inv-loop μ-loop
 add-at c = let w = (within (c .before .before .before .before .before .before .before .before .before .loop .at) (c .before .count .result) (length (putMid (c .before .before .before .before .before .before .before .before .before .loop .at) (length (c .before .before .before .before .before .before .before .before .before .loop .buf) - (c .before .before .before .before .before .before .before .before .before .loop .at)) (c .before .before .before .before .before .before .before .before .before .loop .buf) (c .before .before .before .before .before .before .read .last .1 .0)) - (c .before .before .before .before .before .before .before .before .before .loop .at)) (putMid (c .before .before .before .before .before .before .before .before .before .loop .at) (length (c .before .before .before .before .before .before .before .before .before .loop .buf) - (c .before .before .before .before .before .before .before .before .before .loop .at)) (c .before .before .before .before .before .before .before .before .before .loop .buf) (c .before .before .before .before .before .before .read .last .1 .0)) (rw (same-len-mid (c .before .before .before .before .before .before .before .before .before .loop .at) (length (c .before .before .before .before .before .before .before .before .before .loop .buf) - (c .before .before .before .before .before .before .before .before .before .loop .at)) (c .before .before .before .before .before .before .before .before .before .loop .buf) (c .before .before .before .before .before .before .read .last .1 .0) (c .before .before .before .before .before .before .read .kept .1 .0)) (c .before .before .before .before .before .before .before .before .before .loop .inv .0)) ((c .before .count .ensures) .0 .0)) in let e = (same-len-mid (c .before .before .before .before .before .before .before .before .before .loop .at) (length (c .before .before .before .before .before .before .before .before .before .loop .buf) - (c .before .before .before .before .before .before .before .before .before .loop .at)) (c .before .before .before .before .before .before .before .before .before .loop .buf) (c .before .before .before .before .before .before .read .last .1 .0) (c .before .before .before .before .before .before .read .kept .1 .0)) in let k = (c .before .before .before .before .before .before .before .before .before .loop .inv .1) in search needs
@@ -62,11 +59,11 @@ loop-less c = let w = (within (c .before .before .before .before .before .before
 loop-again : tie.Need-loop-again Inv-loop μ-loop
 loop-again c = ((within (c .before .before .before .before .before .before .before .before .before .loop .at) (c .before .count .result) (length (putMid (c .before .before .before .before .before .before .before .before .before .loop .at) (length (c .before .before .before .before .before .before .before .before .before .loop .buf) - (c .before .before .before .before .before .before .before .before .before .loop .at)) (c .before .before .before .before .before .before .before .before .before .loop .buf) (c .before .before .before .before .before .before .read .last .1 .0)) - (c .before .before .before .before .before .before .before .before .before .loop .at)) (putMid (c .before .before .before .before .before .before .before .before .before .loop .at) (length (c .before .before .before .before .before .before .before .before .before .loop .buf) - (c .before .before .before .before .before .before .before .before .before .loop .at)) (c .before .before .before .before .before .before .before .before .before .loop .buf) (c .before .before .before .before .before .before .read .last .1 .0)) (rw (same-len-mid (c .before .before .before .before .before .before .before .before .before .loop .at) (length (c .before .before .before .before .before .before .before .before .before .loop .buf) - (c .before .before .before .before .before .before .before .before .before .loop .at)) (c .before .before .before .before .before .before .before .before .before .loop .buf) (c .before .before .before .before .before .before .read .last .1 .0) (c .before .before .before .before .before .before .read .kept .1 .0)) (c .before .before .before .before .before .before .before .before .before .loop .inv .0)) ((c .before .count .ensures) .0 .0)), (same-len-mid (c .before .before .before .before .before .before .before .before .before .loop .at) (length (c .before .before .before .before .before .before .before .before .before .loop .buf) - (c .before .before .before .before .before .before .before .before .before .loop .at)) (c .before .before .before .before .before .before .before .before .before .loop .buf) (c .before .before .before .before .before .before .read .last .1 .0) (c .before .before .before .before .before .before .read .kept .1 .0)) ∙ (c .before .before .before .before .before .before .before .before .before .loop .inv .1))
 
-same-length-3 : tie.Need-same-length-3 Inv-loop μ-loop
-same-length-3 c = (c .before .loop .inv .1)
+same-length-2 : tie.Need-same-length-2 Inv-loop μ-loop
+same-length-2 c = (c .before .loop .inv .1)
 
-returns-3 : tie.Need-returns-3 Inv-loop μ-loop
-returns-3 c = search needs
+returns-2 : tie.Need-returns-2 Inv-loop μ-loop
+returns-2 c = search needs
 
 pub read-input-spec : {M : Type 1} → statement M
 read-input-spec =
@@ -83,12 +80,11 @@ read-input-spec =
     part-count-start
     part-count-end
     count-requires
+    without-more-requires
     same-length
     returns
-    same-length-2
-    returns-2
     add-at
     loop-less
     loop-again
-    same-length-3
-    returns-3)
+    same-length-2
+    returns-2)
