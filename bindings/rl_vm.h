@@ -74,7 +74,6 @@ size_t rl_vm_run(const uint8_t *image, size_t image_len,
                  uint64_t *globals, size_t globals_len,
                  uint64_t *cells, size_t cells_len,
                  uint64_t *memo, size_t memo_len,
-                 size_t *frames, size_t frames_len,
                  size_t *count, size_t *length, size_t *line, size_t *chunk, size_t *offset);
 
 #ifdef __cplusplus

@@ -31,16 +31,15 @@ pub extern "C" fn rl_vm_run(
     globals: &mut [u64],
     cells: &mut [u64],
     memo: &mut [u64],
-    frames: &mut [usize],
     count: &mut usize,
     length: &mut usize,
     line: &mut usize,
     chunk: &mut usize,
     offset: &mut usize,
 ) -> usize
-    ensures answer { λ r. ⌜ RunsAs (now (image .entry)) budget (slices (now (bytes .entry)) (now (ends .entry)) (now (kinds .entry)) (now (payloads .entry)) (now (table .entry))) (own (now (texts .entry)) (now (classes .entry)) (now (stack .entry)) (now (locals .entry)) (now (starts .entry)) (now (globals .entry)) (now (cells .entry)) (now (memo .entry)) (now (frames .entry))) (now (result .entry)) (now (result .exit)) r (now (count .exit)) (now (length .exit)) (now (line .exit)) (now (chunk .exit)) (now (offset .exit)) ⌝ }
+    ensures answer { λ r. ⌜ RunsAs (now (image .entry)) budget (slices (now (bytes .entry)) (now (ends .entry)) (now (kinds .entry)) (now (payloads .entry)) (now (table .entry))) (own (now (texts .entry)) (now (classes .entry)) (now (stack .entry)) (now (locals .entry)) (now (starts .entry)) (now (globals .entry)) (now (cells .entry)) (now (memo .entry))) (now (result .entry)) (now (result .exit)) r (now (count .exit)) (now (length .exit)) (now (line .exit)) (now (chunk .exit)) (now (offset .exit)) ⌝ }
     ensures loading { λ r. ⌜ LoadZero (slices (now (bytes .exit)) (now (ends .exit)) (now (kinds .exit)) (now (payloads .exit)) (now (table .exit))) ⌝ }
-    ensures cleared { λ r. ⌜ OwnZero (own (now (texts .exit)) (now (classes .exit)) (now (stack .exit)) (now (locals .exit)) (now (starts .exit)) (now (globals .exit)) (now (cells .exit)) (now (memo .exit)) (now (frames .exit))) ⌝ }
+    ensures cleared { λ r. ⌜ OwnZero (own (now (texts .exit)) (now (classes .exit)) (now (stack .exit)) (now (locals .exit)) (now (starts .exit)) (now (globals .exit)) (now (cells .exit)) (now (memo .exit))) ⌝ }
 {
     let answer = run(
         image,
@@ -59,7 +58,6 @@ pub extern "C" fn rl_vm_run(
         globals,
         cells,
         memo,
-        frames,
     );
     *count = run_count(answer);
     *length = run_length(answer);

@@ -219,7 +219,6 @@ fn runs_as(image: &[u8], budget: usize, result: &mut [u8], line: &[u8], from: us
     let mut globals = [0u64; 512];
     let mut cells = [0u64; 8192];
     let mut memo = [0u64; 4096];
-    let mut frames = [0usize; 315];
     let a = run(
         image,
         budget,
@@ -237,7 +236,6 @@ fn runs_as(image: &[u8], budget: usize, result: &mut [u8], line: &[u8], from: us
         &mut globals,
         &mut cells,
         &mut memo,
-        &mut frames,
     );
     agrees(a, result, line, from)
 }

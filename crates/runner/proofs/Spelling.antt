@@ -56,10 +56,10 @@ spell-asks {before = before} {after = after} {a = a} out r e h = (omega arith, o
 not-short :
     (m : Slices) (o : Own) → length (m .bytes) ≡ 32768 → length (m .ends) ≡ 256 → length (m .kinds) ≡ 13107 → length (m .payloads) ≡ 13107
     → length (m .table) ≡ 260 → length (o .texts) ≡ 257 → length (o .classes) ≡ 65 → length (o .stack) ≡ 512 → length (o .locals) ≡ 2048
-    → length (o .starts) ≡ 256 → length (o .globals) ≡ 512 → length (o .cells) ≡ 8192 → length (o .memo) ≡ 4096 → length (o .frames) ≡ 315
+    → length (o .starts) ≡ 256 → length (o .globals) ≡ 512 → length (o .cells) ≡ 8192 → length (o .memo) ≡ 4096
     → runShort m o ≡ false
 unfolding anyShort
-not-short m o b e k p t x c s l n g y w f =
+not-short m o b e k p t x c s l n g y w =
     rw (
       le-ltb (length (o .texts)) 257 (omega arith),
       le-ltb (length (o .classes)) 65 (omega arith),
@@ -69,7 +69,6 @@ not-short m o b e k p t x c s l n g y w f =
       le-ltb (length (o .globals)) 512 (omega arith),
       le-ltb (length (o .cells)) 8192 (omega arith),
       le-ltb (length (o .memo)) 4096 (omega arith),
-      le-ltb (length (o .frames)) 315 (omega arith),
       le-ltb (length (m .bytes)) 32768 (omega arith),
       le-ltb (length (m .ends)) 256 (omega arith),
       le-ltb (length (m .kinds)) 13107 (omega arith),
@@ -81,11 +80,11 @@ pub says :
     (bytes : List ℕ) {m : Slices} {o : Own} {a : RunAnswer} {before after out out′ : List ℕ} {to : ℕ} → Runs bytes 1000000 m o before after a
     → length (m .bytes) ≡ 32768 → length (m .ends) ≡ 256 → length (m .kinds) ≡ 13107 → length (m .payloads) ≡ 13107
     → length (m .table) ≡ 260 → length (o .texts) ≡ 257 → length (o .classes) ≡ 65 → length (o .stack) ≡ 512 → length (o .locals) ≡ 2048
-    → length (o .starts) ≡ 256 → length (o .globals) ≡ 512 → length (o .cells) ≡ 8192 → length (o .memo) ≡ 4096 → length (o .frames) ≡ 315
+    → length (o .starts) ≡ 256 → length (o .globals) ≡ 512 → length (o .cells) ≡ 8192 → length (o .memo) ≡ 4096
     → length before ≡ 4096 → Puts out 0 (answerLine (answerOf a after)) out′ to → (take to out′ ≡ runnerLine bytes) × (to ≤ length out′)
 unfolding runnerLine
-says bytes {m} {o} r b e k p t x c s l n g y w f room q = (
-  q .text ∙ ap answerLine (r .answers (not-short m o b e k p t x c s l n g y w f))
+says bytes {m} {o} r b e k p t x c s l n g y w room q = (
+  q .text ∙ ap answerLine (r .answers (not-short m o b e k p t x c s l n g y w))
       ∙ ap (λ (size : ℕ). answerLine (definition.runAnswer bytes 1000000 size)) room,
   q .within,
 )

@@ -32,7 +32,6 @@ fn answer_line(image: &[u8], out: &mut [u8]) -> usize
     let mut globals = [0u64; 512];
     let mut cells = [0u64; 8192];
     let mut memo = [0u64; 4096];
-    let mut frames = [0usize; 315];
     let a = run(
         image,
         1000000,
@@ -50,7 +49,6 @@ fn answer_line(image: &[u8], out: &mut [u8]) -> usize
         &mut globals,
         &mut cells,
         &mut memo,
-        &mut frames,
     );
     spell(a, &result, out)
 }

@@ -115,7 +115,6 @@ exported! {
         globals: u64 = 512,
         cells: u64 = 8_192,
         memo: u64 = 4_096,
-        frames: usize = 315,
     ]
     answers [count, length, line, chunk, offset]
 }

@@ -45,9 +45,6 @@ slice-aggregate-run-13 c = search needs
 slice-aggregate-run-14 : tie.Need-slice-aggregate-run-14
 slice-aggregate-run-14 c = search needs
 
-slice-aggregate-run-15 : tie.Need-slice-aggregate-run-15
-slice-aggregate-run-15 c = search needs
-
 run-requires : tie.Need-run-requires
 run-requires c κs = search needs
 
@@ -61,7 +58,7 @@ same-length : tie.Need-same-length
 same-length c = search needs
 
 returns : tie.Need-returns
-returns c = says (c .before .before .before .before .before .before .before .before .before .before .before .before .before .before .before .before .before .before .before .before .before .before .before .before .before .before .before .before .before .before .before .before .before .before .before .before .before .before .args .image .now) ((c .before .before .before .before .before .before .before .before .before .before .before .before .before .before .before .before .before .before .before .before .run .ensures) .0) (search needs) (search needs) (search needs) (search needs) (search needs) (search needs) (search needs) (search needs) (search needs) (search needs) (search needs) (search needs) (search needs) (search needs) (search needs) (c .before .before .spell .ensures)
+returns c = says (c .before .before .before .before .before .before .before .before .before .before .before .before .before .before .before .before .before .before .before .before .before .before .before .before .before .before .before .before .before .before .before .before .before .before .before .before .before .before .args .image .now) ((c .before .before .before .before .before .before .before .before .before .before .before .before .before .before .before .before .before .before .before .before .run .ensures) .0) (search needs) (search needs) (search needs) (search needs) (search needs) (search needs) (search needs) (search needs) (search needs) (search needs) (search needs) (search needs) (search needs) (search needs) (c .before .before .spell .ensures)
 
 pub answer-line-spec : {M : Type 1} → statement M
 answer-line-spec =
@@ -81,7 +78,6 @@ answer-line-spec =
     slice-aggregate-run-12
     slice-aggregate-run-13
     slice-aggregate-run-14
-    slice-aggregate-run-15
     run-requires
     slice-aggregate-spell
     spell-requires
