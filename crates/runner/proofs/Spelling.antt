@@ -13,9 +13,9 @@ use Rattle.image.specs.Answer.{Slices, numberOf, short}
 use Rattle.image_records.specs.declared.Reason as refusal
 use Rattle.vm_acts.specs.Reasons.{reasonNumber}
 use Rattle.vm_acts.specs.declared.StopReason.{StopReason}
-use Rattle.vm_run.specs.Run.{Own, anyShort, runShort, answerOf, Runs, Written}
-use Rattle.vm_run.specs.declared.RunAnswer.{RunAnswer}
-use Rattle.vm_run.specs.declared.RunAnswer.the-variants.{Refused, Value, Stop}
+use Rattle.run_answers.specs.Run.{Own, anyShort, runShort, answerOf, Runs, Written}
+use Rattle.run_answers.specs.declared.RunAnswer.{RunAnswer}
+use Rattle.run_answers.specs.declared.RunAnswer.the-variants.{Refused, Value, Stop}
 use Rattle.lines_out.specs.Puts.{Puts}
 use Rattle.runner.specs.Line.{Fits}
 

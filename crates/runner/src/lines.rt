@@ -5,7 +5,7 @@ ghost use Prim.Native.Nat.{_+_, _*_, _≤_};
 ghost use lib.ListN.{length};
 ghost use Rattle.definition.specs.Runner.{ascii, decimal, padded, hex, words, answerLine};
 ghost use Rattle.lines_out.specs.Puts.{Puts};
-ghost use Rattle.vm_run.specs.Run.{answerOf};
+ghost use Rattle.run_answers.specs.Run.{answerOf};
 ghost use Rattle.runner.specs.Line.{Fits};
 use lines_out::put;
 use lines_out::put_decimal;

@@ -2,8 +2,8 @@
 use Prim.Native.Nat.{ℕ}
 use Rattle.image.specs.Answer.{numberOf}
 use Rattle.vm_acts.specs.Reasons.{reasonNumber}
-use Rattle.vm_run.specs.declared.RunAnswer.{RunAnswer}
-use Rattle.vm_run.specs.declared.RunAnswer.the-variants.{Refused, Value, Stop}
+use Rattle.run_answers.specs.declared.RunAnswer.{RunAnswer}
+use Rattle.run_answers.specs.declared.RunAnswer.the-variants.{Refused, Value, Stop}
 
 -- document 01's number; 0 for a value
 abbrev pub runNumber : RunAnswer → ℕ

@@ -1,8 +1,8 @@
 use borrow.Author.Needs.{needs}
-use Rattle.vm_run.proofs.run_numbers.run_number.Statement.{statement}
-use Rattle.vm_run.proofs.run_numbers.run_number.Tie as tie
+use Rattle.run_answers.proofs.run_numbers.run_number.Statement.{statement}
+use Rattle.run_answers.proofs.run_numbers.run_number.Tie as tie
 use mathlib.Core.Path.{ap, sym, _∙_}
-use Rattle.vm_run.specs.Numbers.{runNumber}
+use Rattle.run_answers.specs.Numbers.{runNumber}
 
 enum-known-a : tie.Need-enum-known-a
 enum-known-a c = search needs

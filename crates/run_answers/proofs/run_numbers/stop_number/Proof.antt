@@ -1,6 +1,6 @@
 use borrow.Author.Needs.{needs}
-use Rattle.vm_run.proofs.run_numbers.stop_number.Statement.{statement}
-use Rattle.vm_run.proofs.run_numbers.stop_number.Tie as tie
+use Rattle.run_answers.proofs.run_numbers.stop_number.Statement.{statement}
+use Rattle.run_answers.proofs.run_numbers.stop_number.Tie as tie
 use mathlib.Core.Path.{ap, sym}
 use Rattle.vm_acts.specs.Reasons.{reasonNumber}
 
