@@ -1,32 +1,17 @@
 // `load` under a name that Rust can link: what bench/image times.
 ghost use mathlib.Core.Path.{_≡_};
-ghost use Rattle.image.specs.Answer.{numberOf, slices};
+ghost use Rattle.image.specs.Answer.{slices};
 ghost use Rattle.image_bench.specs.Exported.{codeOf, Exported};
 use image::LoadAnswer;
-use image::Reason;
 use image::load;
-
-fn number_of(r: Reason) -> u64
-    ensures { λ n. ⌜ n ≡ numberOf r ⌝ }
-{
-    match r {
-        Reason::TooLong => 1,
-        Reason::BadLine => 2,
-        Reason::OutOfOrder => 3,
-        Reason::BadField => 4,
-        Reason::TooMany => 5,
-        Reason::NoEnd => 6,
-        Reason::NoSuchChunk => 7,
-        Reason::ShortSlice => 9,
-    }
-}
+use loading::refusal_number;
 
 fn code_of(a: LoadAnswer) -> u64
     ensures { λ n. ⌜ n ≡ codeOf a ⌝ }
 {
     match a {
         LoadAnswer::Loaded(_) => 0,
-        LoadAnswer::Refused(r, _) => number_of(r),
+        LoadAnswer::Refused(r, _) => refusal_number(r) as u64,
     }
 }
 

@@ -6,18 +6,16 @@
 // counted as malformed. The images that are too long for a list, and the slices that are too short, are made here by rule.
 mod list;
 
-ghost use mathlib.Core.Path.{_≡_};
 ghost use Prim.Native.Nat.{_≤_};
-ghost use Rattle.image.specs.Answer.{numberOf};
 use case_list::after;
 use case_list::line_end;
 use case_list::put;
 use image::LoadAnswer;
-use image::Reason;
 use image::load;
 use libc::STDOUT_FILENO;
 use list::answer_mark;
 use list::image_end;
+use loading::refusal_number;
 use std::num::wrapping_add_u64;
 
 struct Tally {
@@ -94,28 +92,13 @@ fn decode(line: &[u8], out: &mut [u8]) -> usize {
     n
 }
 
-fn number_of(r: Reason) -> u64
-    ensures { λ n. ⌜ n ≡ numberOf r ⌝ }
-{
-    match r {
-        Reason::TooLong => 1,
-        Reason::BadLine => 2,
-        Reason::OutOfOrder => 3,
-        Reason::BadField => 4,
-        Reason::TooMany => 5,
-        Reason::NoEnd => 6,
-        Reason::NoSuchChunk => 7,
-        Reason::ShortSlice => 9,
-    }
-}
-
 // The answer as the list has it, at the start of `out`; its length.
 fn spell(a: LoadAnswer, out: &mut [u8]) -> usize {
     match a {
         LoadAnswer::Loaded(_) => put(out, 0, b"loads"),
         LoadAnswer::Refused(r, line) => {
             let mut digits = [0u8; 20];
-            let k = io::decimal(number_of(r), &mut digits);
+            let k = io::decimal(refusal_number(r) as u64, &mut digits);
             let at = put(out, 0, b"refused ");
             let at = put(out, at, &digits[..k]);
             let at = put(out, at, b" ");
@@ -254,7 +237,7 @@ fn replay(list: &[u8]) -> Tally {
 fn is_short(a: LoadAnswer) -> u64 {
     match a {
         LoadAnswer::Loaded(_) => 0,
-        LoadAnswer::Refused(r, _) => { if number_of(r) == 9 { 1 } else { 0 } }
+        LoadAnswer::Refused(r, _) => { if refusal_number(r) == 9 { 1 } else { 0 } }
     }
 }
 
