@@ -1,0 +1,90 @@
+//! What a check says of each function of a crate.
+
+/// What `rt dev` printed.
+pub struct Log(pub String);
+
+impl Log {
+    /// Whether the code reached the prover, and was refused.
+    pub fn refused(&self) -> bool {
+        self.0.lines().any(|line| line == "logic=not-proved")
+    }
+
+    /// What is said of a function: `proved`, or why not.
+    fn verdict(&self, name: &str) -> Option<&str> {
+        let said = |line: &'_ str| -> Option<usize> {
+            let path = line.strip_prefix("fn ")?.split(": ").next()?;
+            (path.rsplit("::").next() == Some(name)).then_some("fn ".len() + path.len() + 2)
+        };
+        self.0
+            .lines()
+            .find_map(|line| said(line).map(|at| &line[at..]))
+    }
+
+    pub fn unproved(&self, name: &str) -> bool {
+        let verdict = self.verdict(name).unwrap_or("proved");
+        verdict.starts_with("not proved") || verdict.starts_with("no proof")
+    }
+
+    /// The error of a function that is not proved by itself: a line that names its proof and does not only say that another
+    /// part was not admitted; or, where it has no proof of its own, the fact that was not found.
+    pub fn own_error(&self, name: &str) -> Option<&str> {
+        let verdict = self.verdict(name)?;
+        if verdict.starts_with("no proof") {
+            return verdict.contains("does not close").then_some(verdict);
+        }
+        if !verdict.starts_with("not proved") {
+            return None;
+        }
+        let file = format!("/{name}/Proof.antt:");
+        self.0.lines().find_map(|line| {
+            let at = line.find(&file)?;
+            (line.contains(": error: ") && !line.contains("was not admitted"))
+                .then_some(&line[at + 1..])
+        })
+    }
+
+    /// The first error of all.
+    pub fn first_error(&self) -> &str {
+        let error = |line: &&str| line.contains(": error") || line.starts_with("note: ");
+        self.0.lines().find(error).unwrap_or("no error is named")
+    }
+}
+
+/// Whether an error is about the form of a proof, which names a part that the code has no longer.
+pub fn about_form(error: &str) -> bool {
+    error.contains("has no `")
+}
+
+#[cfg(test)]
+mod tests {
+    use super::*;
+
+    fn log() -> Log {
+        Log([
+            "/x/proofs/m/low/Proof.antt:9:1: error: `returns`: the two types differ where one has `3`",
+            "/x/proofs/m/low/Proof.antt:12:1: error: `low-spec`: `returns` was not admitted (it has holes)",
+            "/x/proofs/m/top/Proof.antt:12:1: error: `top-spec`: `close` was not admitted (it has holes)",
+            "fn x::m::low: not proved",
+            "fn x::m::top: not proved; it calls `x::m::low`, which is not proved",
+            "fn x::m::plain: no proof: expected `plain-spec` in /x; `search` does not close `returns`",
+            "fn x::m::right: proved",
+            "logic=not-proved",
+        ]
+        .join("\n"))
+    }
+
+    #[test]
+    fn an_error_of_its_own_is_told_from_a_callees() {
+        assert!(log().refused());
+        assert!(log().own_error("low").unwrap().contains("`3`"));
+        assert!(log().own_error("plain").unwrap().starts_with("no proof"));
+        assert_eq!(log().own_error("top"), None);
+        assert_eq!(log().own_error("right"), None);
+    }
+
+    #[test]
+    fn a_function_is_unproved_also_by_what_it_calls() {
+        assert!(log().unproved("low") && log().unproved("top") && log().unproved("plain"));
+        assert!(!log().unproved("right") && !log().unproved("absent"));
+    }
+}
