@@ -8,15 +8,8 @@ pub use classes::chunk_classes;
 pub use classes::class_of;
 pub use classes::text_classes;
 pub use equality::equal;
-pub use equality::number_of;
 pub use kind::value_is_kind;
-use numbers::Number;
 use values::Block;
-
-pub enum MaybeNumber {
-    Is(Number),
-    Not,
-}
 
 pub enum MaybeBlock {
     Is(Block),
