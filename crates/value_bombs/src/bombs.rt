@@ -14,6 +14,7 @@ use super::Nested;
 use numbers::Number;
 use value_coding::Coded;
 use values::Built;
+use values::SequenceKind;
 use values::VmValue;
 
 // The value [x, y].
@@ -24,7 +25,7 @@ fn pair(cells: &mut [u64], nc: usize, x: VmValue, y: VmValue) -> Built
     let mut parts = [0u64; 4];
     values::store_value(&mut parts, 0, x);
     values::store_value(&mut parts, 1, y);
-    values::build_arr(&parts, 0, 2, cells, nc)
+    values::build_sequence(SequenceKind::Arr, &parts, 0, 2, cells, nc)
 }
 
 // The values [x, y] and [x, x].

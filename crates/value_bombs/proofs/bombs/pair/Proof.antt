@@ -6,7 +6,7 @@ use Rattle.value_bombs.proofs.bombs.pair.Statement.{statement}
 use Rattle.value_bombs.proofs.bombs.pair.Tie as tie
 use Rattle.value_bombs.proofs.bombs.pair.Reads as reads
 use Rattle.value_bombs.proofs.bombs.pair.Lts as lts
-use Rattle.values.proofs.build_arr.Reads as build-arr-reads
+use Rattle.values.proofs.build_sequence.Reads as build-sequence-reads
 use Rattle.values.proofs.store_value.Reads as store-value-reads
 
 slice-aggregate-store-value : tie.Need-slice-aggregate-store-value
@@ -21,17 +21,17 @@ slice-aggregate-store-value-2 c = search needs
 store-value-requires-2 : tie.Need-store-value-requires-2
 store-value-requires-2 c κs = search needs
 
-slice-aggregate-build-arr : tie.Need-slice-aggregate-build-arr
-slice-aggregate-build-arr c = search needs
+slice-aggregate-build-sequence : tie.Need-slice-aggregate-build-sequence
+slice-aggregate-build-sequence c = search needs
 
-build-arr-requires : tie.Need-build-arr-requires
-build-arr-requires c κs = search needs
+build-sequence-requires : tie.Need-build-sequence-requires
+build-sequence-requires c κs = search needs
 
 same-length : tie.Need-same-length
 same-length c = search needs
 
 returns : tie.Need-returns
-returns c = paired _ _ (c .before .before .before .before .before .before .before .before .before .before .before .before .args .x) (c .before .before .before .before .before .before .before .before .before .before .before .before .args .y) (c .before .before .before .before .before .before .before .before .before .before .before .before .args .nc) (c .before .before .before .before .before .before .before .before .before .before .before .before .args .cells .now) _ (c .before .before .build-arr .result) (c .before .before .before .before .before .before .before .before .before .store-value .ensures) (c .before .before .before .before .before .before .store-value2 .ensures) (c .before .before .build-arr .ensures)
+returns c = paired _ _ (c .before .before .before .before .before .before .before .before .before .before .before .before .args .x) (c .before .before .before .before .before .before .before .before .before .before .before .before .args .y) (c .before .before .before .before .before .before .before .before .before .before .before .before .args .nc) (c .before .before .before .before .before .before .before .before .before .before .before .before .args .cells .now) _ (c .before .before .build-sequence .result) (c .before .before .before .before .before .before .before .before .before .store-value .ensures) (c .before .before .before .before .before .before .store-value2 .ensures) (c .before .before .build-sequence .ensures)
 
 pub pair-spec : {M : Type 1} → statement M
 pair-spec =
@@ -41,7 +41,7 @@ pair-spec =
     store-value-requires
     slice-aggregate-store-value-2
     store-value-requires-2
-    slice-aggregate-build-arr
-    build-arr-requires
+    slice-aggregate-build-sequence
+    build-sequence-requires
     same-length
     returns)
