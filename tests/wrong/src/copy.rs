@@ -24,6 +24,21 @@ pub fn names(folder: &Path) -> Vec<String> {
     all
 }
 
+/// The files in these parts of a crate's folder.
+pub fn files(folder: &Path, parts: &[&str]) -> Files {
+    let mut files = Files::new();
+    for part in parts {
+        for file in names(&folder.join(part)) {
+            let path = format!("{part}/{file}");
+            files.insert(
+                path.clone(),
+                fs::read_to_string(folder.join(&path)).expect("a file"),
+            );
+        }
+    }
+    files
+}
+
 fn copied(from: &Path, to: &Path) {
     let done = Command::new("cp").arg("-R").arg(from).arg(to).status();
     assert!(
@@ -61,18 +76,7 @@ impl Copy {
 
     /// The files of a crate that an edit may change.
     pub fn files(&self, name: &str) -> Files {
-        let crate_folder = self.top.join("crates").join(name);
-        let mut files = Files::new();
-        for part in ["src", "specs"] {
-            for file in names(&crate_folder.join(part)) {
-                let path = format!("{part}/{file}");
-                files.insert(
-                    path.clone(),
-                    fs::read_to_string(crate_folder.join(&path)).expect("a file"),
-                );
-            }
-        }
-        files
+        files(&self.top.join("crates").join(name), &["src", "specs"])
     }
 
     /// Checks the crate with these files.

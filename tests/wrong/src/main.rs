@@ -2,6 +2,7 @@
 
 mod batch;
 mod copy;
+mod coverage;
 mod edit;
 mod prover;
 mod source;
@@ -30,6 +31,12 @@ fn main() -> ExitCode {
         .canonicalize()
         .expect("the repository");
     let named: Vec<String> = std::env::args().skip(1).collect();
+    let missing = if named.is_empty() {
+        coverage::missing(&top)
+    } else {
+        Vec::new()
+    };
+    missing.iter().for_each(|line| println!("FAILED {line}"));
     let mut crates = if named.is_empty() {
         with_edits(&top)
     } else {
@@ -49,7 +56,7 @@ fn main() -> ExitCode {
     });
     let (refused, failed) = (work.refused.into_inner(), work.failed.into_inner());
     println!("wrong programs: {refused} refused for a fact of their function, {failed} not");
-    if failed == 0 && refused > 0 {
+    if failed + missing.len() == 0 && refused > 0 {
         ExitCode::SUCCESS
     } else {
         ExitCode::FAILURE

@@ -58,6 +58,13 @@ fn calls(body: &str, name: &str) -> bool {
         .any(|(at, _)| !body[..at].ends_with(is_in_name) && !body[..at].ends_with("fn "))
 }
 
+/// The names of the public functions.
+pub fn public(files: &Files) -> BTreeSet<String> {
+    let first = |body: &str| body.trim_start().starts_with("pub ");
+    let all = files.values().flat_map(|text| functions(text));
+    all.filter(|f| first(f.2)).map(|f| f.0).collect()
+}
+
 /// The functions that `from` reaches by calls within the crate, itself included.
 pub fn reached(files: &Files, from: &str) -> BTreeSet<String> {
     let all: Vec<_> = files.values().flat_map(|text| functions(text)).collect();
@@ -103,6 +110,10 @@ mod tests {
     #[test]
     fn calls_are_followed() {
         let files = Files::from([("src/lib.rt".to_string(), TEXT.to_string())]);
+        assert_eq!(
+            public(&files).into_iter().collect::<Vec<_>>(),
+            ["mid", "top"]
+        );
         let names: Vec<_> = reached(&files, "top").into_iter().collect();
         assert_eq!(names, ["low", "mid", "top"]);
         assert_eq!(reached(&files, "low").len(), 1);
