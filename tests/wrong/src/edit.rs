@@ -1,10 +1,12 @@
 //! An edit: a wrong program, as a change of a crate's files.
 
-use crate::source::{Files, function_at};
+use crate::source::{Files, function_at, place_of};
 
 /// One text of one file, and what stands there instead.
 pub struct Change {
     pub file: String,
+    /// The function in which the text stands once, where it stands more than once in the file.
+    pub within: Option<String>,
     pub old: String,
     pub new: String,
 }
@@ -16,20 +18,29 @@ pub struct Edit {
     pub changes: Vec<Change>,
 }
 
+/// A method is named with its type before it, as `CodeCursor::fetch_byte`.
+fn last_part(name: &str) -> String {
+    name.rsplit("::").next().unwrap_or(name).to_string()
+}
+
 impl Edit {
     pub fn parse(name: &str, text: &str) -> Result<Edit, String> {
         let (mut of, mut changes) = (Vec::new(), Vec::new());
-        let (mut file, mut old) = (String::new(), None);
+        let (mut file, mut within, mut old) = (String::new(), None, None);
         for line in text.lines() {
             if let Some(names) = line.strip_prefix("of: ") {
-                of = names.split_whitespace().map(str::to_string).collect();
+                of = names.split_whitespace().map(last_part).collect();
             } else if let Some(named) = line.strip_prefix("file: ") {
                 file = named.to_string();
+                within = None;
+            } else if let Some(named) = line.strip_prefix("in: ") {
+                within = Some(named.to_string());
             } else if let Some(text) = line.strip_prefix("old: ") {
                 old = Some(text.to_string());
             } else if let Some(text) = line.strip_prefix("new:") {
                 changes.push(Change {
                     file: file.clone(),
+                    within: within.clone(),
                     old: old.take().ok_or("a line 'new:' without a line 'old:'")?,
                     new: text.strip_prefix(' ').unwrap_or(text).to_string(),
                 });
@@ -47,23 +58,36 @@ impl Edit {
 
     /// Makes the edit. The answer is the functions in which it lies; a place outside every function is none.
     pub fn make(&self, files: &mut Files) -> Result<Vec<Option<String>>, String> {
-        let mut functions = Vec::new();
-        for change in &self.changes {
-            let text = files
-                .get_mut(&change.file)
-                .ok_or(format!("no file {}", change.file))?;
-            let places: Vec<usize> = text.match_indices(&change.old).map(|m| m.0).collect();
-            let [at] = places[..] else {
-                return Err(format!(
-                    "its text stands {} times in {}",
-                    places.len(),
-                    change.file
-                ));
-            };
-            functions.push(function_at(text, at));
-            text.replace_range(at..at + change.old.len(), &change.new);
-        }
-        Ok(functions)
+        self.changes
+            .iter()
+            .map(|change| change.make(files))
+            .collect()
+    }
+}
+
+impl Change {
+    fn make(&self, files: &mut Files) -> Result<Option<String>, String> {
+        let text = files
+            .get_mut(&self.file)
+            .ok_or(format!("no file {}", self.file))?;
+        let (from, to) = match &self.within {
+            None => (0, text.len()),
+            Some(name) => place_of(text, name).ok_or(format!("no function {name}"))?,
+        };
+        let places: Vec<usize> = text[from..to]
+            .match_indices(&self.old)
+            .map(|m| from + m.0)
+            .collect();
+        let [at] = places[..] else {
+            return Err(format!(
+                "its text stands {} times in {}",
+                places.len(),
+                self.file
+            ));
+        };
+        let function = function_at(text, at);
+        text.replace_range(at..at + self.old.len(), &self.new);
+        Ok(function)
     }
 }
 
@@ -71,7 +95,7 @@ impl Edit {
 mod tests {
     use super::*;
 
-    const EDIT: &str = "# Why.\nof: f g\nfile: src/lib.rt\nold:     a + 1\nnew:     a + 2\n";
+    const EDIT: &str = "# Why.\nof: f T::g\nfile: src/lib.rt\nold:     a + 1\nnew:     a + 2\n";
 
     fn files(text: &str) -> Files {
         Files::from([("src/lib.rt".to_string(), text.to_string())])
@@ -91,6 +115,18 @@ mod tests {
         let edit = Edit::parse("e", EDIT).unwrap();
         assert!(edit.make(&mut files("fn f() {}\n")).is_err());
         assert!(edit.make(&mut files("    a + 1\n    a + 1\n")).is_err());
+    }
+
+    #[test]
+    fn may_look_into_one_function() {
+        let two = "fn f() {\n    a + 1\n}\n\nfn g() {\n    a + 1\n}\n";
+        let edit = Edit::parse("e", &EDIT.replace("old:", "in: g\nold:")).unwrap();
+        let mut files = files(two);
+        assert_eq!(edit.make(&mut files).unwrap(), [Some("g".to_string())]);
+        assert_eq!(
+            files["src/lib.rt"],
+            two.replace("g() {\n    a + 1", "g() {\n    a + 2")
+        );
     }
 
     #[test]

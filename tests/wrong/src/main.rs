@@ -155,18 +155,20 @@ fn judge(log: &Log, files: &Files, placed: &Placed) -> Result<String, String> {
         }
     }
     for of in &placed.edit.of {
-        let reached = reached(files, of);
-        if !log.unproved(of)
-            || !placed
-                .functions
-                .iter()
-                .flatten()
-                .all(|f| reached.contains(f))
-        {
+        if !log.unproved(of) || !calls_edited(files, placed, of) {
             return Err(format!("refused, but not as a program of {of}: {error}"));
         }
     }
     Ok(error.to_string())
+}
+
+/// Whether a function is one in which the edit lies, or calls one. An edit of a definition lies in none.
+fn calls_edited(files: &Files, placed: &Placed, of: &str) -> bool {
+    let reached = reached(files, of);
+    placed
+        .functions
+        .iter()
+        .any(|f| f.as_ref().is_none_or(|f| reached.contains(f)))
 }
 
 fn cut(text: &str) -> String {

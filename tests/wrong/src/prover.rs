@@ -25,8 +25,9 @@ impl Log {
         verdict.starts_with("not proved") || verdict.starts_with("no proof")
     }
 
-    /// The error of a function that is not proved by itself: a line that names its proof and does not only say that another
-    /// part was not admitted; or, where it has no proof of its own, the fact that was not found.
+    /// The error of a function that is not proved by itself: a line that names its proof (with a `+` before the name of a
+    /// recursive function) and does not only say that another part was not admitted; or, where it has no proof of its own,
+    /// the fact that was not found.
     pub fn own_error(&self, name: &str) -> Option<&str> {
         let verdict = self.verdict(name)?;
         if verdict.starts_with("no proof") {
@@ -35,11 +36,12 @@ impl Log {
         if !verdict.starts_with("not proved") {
             return None;
         }
-        let file = format!("/{name}/Proof.antt:");
+        let proof = format!("{name}/Proof.antt:");
+        let of_it = |line: &str, at: usize| line[..at].ends_with('/') || line[..at].ends_with("/+");
         self.0.lines().find_map(|line| {
-            let at = line.find(&file)?;
-            (line.contains(": error: ") && !line.contains("was not admitted"))
-                .then_some(&line[at + 1..])
+            let at = line.find(&proof).filter(|at| of_it(line, *at))?;
+            let fact = line.contains(": error: ") && !line.contains("was not admitted");
+            fact.then_some(&line[at..])
         })
     }
 
@@ -64,7 +66,9 @@ mod tests {
             "/x/proofs/m/low/Proof.antt:9:1: error: `returns`: the two types differ where one has `3`",
             "/x/proofs/m/low/Proof.antt:12:1: error: `low-spec`: `returns` was not admitted (it has holes)",
             "/x/proofs/m/top/Proof.antt:12:1: error: `top-spec`: `close` was not admitted (it has holes)",
+            "/x/proofs/m/+again/Proof.antt:9:1: error: `returns`: the two types differ where one has `4`",
             "fn x::m::low: not proved",
+            "fn x::m::again: not proved",
             "fn x::m::top: not proved; it calls `x::m::low`, which is not proved",
             "fn x::m::plain: no proof: expected `plain-spec` in /x; `search` does not close `returns`",
             "fn x::m::right: proved",
@@ -78,6 +82,7 @@ mod tests {
         assert!(log().refused());
         assert!(log().own_error("low").unwrap().contains("`3`"));
         assert!(log().own_error("plain").unwrap().starts_with("no proof"));
+        assert!(log().own_error("again").unwrap().contains("`4`"));
         assert_eq!(log().own_error("top"), None);
         assert_eq!(log().own_error("right"), None);
     }

@@ -51,6 +51,12 @@ pub fn function_at(text: &str, at: usize) -> Option<String> {
         .map(|(name, _, _)| name)
 }
 
+/// Where a function of this name begins and ends in a file.
+pub fn place_of(text: &str, name: &str) -> Option<(usize, usize)> {
+    let found = functions(text).into_iter().find(|f| f.0 == name)?;
+    Some((found.1, found.1 + found.2.len()))
+}
+
 /// Whether a text calls a function of this name.
 fn calls(body: &str, name: &str) -> bool {
     let call = format!("{name}(");
