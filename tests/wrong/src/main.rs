@@ -147,28 +147,38 @@ fn judge(log: &Log, files: &Files, placed: &Placed) -> Result<String, String> {
         ));
     }
     let mut error = log.first_error();
-    for function in placed.functions.iter().flatten() {
-        let own = log.own_error(function);
-        error = own.ok_or(format!("{function} is not refused by itself: {error}"))?;
-        if about_form(error) {
-            return Err(format!("refused for its form: {error}"));
-        }
-    }
     for of in &placed.edit.of {
-        if !log.unproved(of) || !calls_edited(files, placed, of) {
-            return Err(format!("refused, but not as a program of {of}: {error}"));
+        if !log.unproved(of) {
+            return Err(format!("refused, but {of} is proved: {error}"));
         }
+        error = error_below(log, files, placed, of)?;
     }
     Ok(error.to_string())
 }
 
-/// Whether a function is one in which the edit lies, or calls one. An edit of a definition lies in none.
-fn calls_edited(files: &Files, placed: &Placed, of: &str) -> bool {
+/// The error of a function in which the edit lies, and which is `of` or is called by it. An edit of a definition, or of a
+/// constant, lies in none.
+fn error_below<'a>(
+    log: &'a Log,
+    files: &Files,
+    placed: &Placed,
+    of: &str,
+) -> Result<&'a str, String> {
     let reached = reached(files, of);
-    placed
-        .functions
-        .iter()
-        .any(|f| f.as_ref().is_none_or(|f| reached.contains(f)))
+    let first = log.first_error();
+    let mut why = format!("{of} calls nothing that is refused by itself: {first}");
+    for function in &placed.functions {
+        let own = match function {
+            None => Some(first),
+            Some(f) => log.own_error(f).filter(|_| reached.contains(f)),
+        };
+        match own {
+            Some(error) if about_form(error) => why = format!("refused for its form: {error}"),
+            Some(error) => return Ok(error),
+            None => {}
+        }
+    }
+    Err(why)
 }
 
 fn cut(text: &str) -> String {

@@ -54,7 +54,7 @@ impl Log {
 
 /// Whether an error is about the form of a proof, which names a part that the code has no longer.
 pub fn about_form(error: &str) -> bool {
-    error.contains("has no `")
+    error.contains("has no `") || error.contains("has no field `")
 }
 
 #[cfg(test)]
