@@ -52,6 +52,9 @@ impl Edit {
         if changes.is_empty() || old.is_some() {
             return Err("it has no pair of lines 'old:' and 'new:', or half a pair".to_string());
         }
+        if changes.iter().any(Change::is_of_a_contract) {
+            return Err("it changes a contract".to_string());
+        }
         let name = name.to_string();
         Ok(Edit { name, of, changes })
     }
@@ -66,6 +69,12 @@ impl Edit {
 }
 
 impl Change {
+    /// Edits share a check because what a function is proved from, the contracts of what it calls, stays as it is.
+    fn is_of_a_contract(&self) -> bool {
+        let named = |text: &str| text.contains("ensures") || text.contains("requires");
+        self.file.starts_with("src/") && (named(&self.old) || named(&self.new))
+    }
+
     fn make(&self, files: &mut Files) -> Result<Option<String>, String> {
         let text = files
             .get_mut(&self.file)
@@ -134,5 +143,6 @@ mod tests {
         assert!(Edit::parse("e", "file: src/lib.rt\nold: a\nnew: b\n").is_err());
         assert!(Edit::parse("e", "of: f\nfile: src/lib.rt\nold: a\n").is_err());
         assert!(Edit::parse("e", "of: f\nnew: b\n").is_err());
+        assert!(Edit::parse("e", &EDIT.replace("a + 2", "ensures { x }")).is_err());
     }
 }
