@@ -73,7 +73,7 @@ size_t rl_vm_run(const uint8_t *image, size_t image_len,
                  size_t *starts, size_t starts_len,
                  uint64_t *globals, size_t globals_len,
                  uint64_t *cells, size_t cells_len,
-                 uint64_t *memo, size_t memo_len,
+                 uint16_t *memo, size_t memo_len,
                  size_t *count, size_t *length, size_t *line, size_t *chunk, size_t *offset);
 
 #ifdef __cplusplus

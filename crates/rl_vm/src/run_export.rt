@@ -30,7 +30,7 @@ pub extern "C" fn rl_vm_run(
     starts: &mut [usize],
     globals: &mut [u64],
     cells: &mut [u64],
-    memo: &mut [u64],
+    memo: &mut [u16],
     count: &mut usize,
     length: &mut usize,
     line: &mut usize,

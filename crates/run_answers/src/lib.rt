@@ -12,6 +12,7 @@ pub use run_numbers::stop_number;
 ghost use mathlib.Core.Path.{_≡_};
 ghost use Rattle.vm_logic.specs.Endings.{EndHeld};
 ghost use Rattle.run_answers.specs.Run.{own, anyShort, OwnZero, Ended};
+use clearing::clear_u16;
 use clearing::clear_u64;
 use clearing::clear_usize;
 use value_coding::Coded;
@@ -81,7 +82,7 @@ pub fn clear_run(
     starts: &mut [usize],
     globals: &mut [u64],
     cells: &mut [u64],
-    memo: &mut [u64],
+    memo: &mut [u16],
 )
     ensures { λ r. ⌜ OwnZero (own (now (texts .exit)) (now (classes .exit)) (now (stack .exit)) (now (locals .exit)) (now (starts .exit)) (now (globals .exit)) (now (cells .exit)) (now (memo .exit))) ⌝ }
 {
@@ -92,7 +93,7 @@ pub fn clear_run(
     clear_usize(starts);
     clear_u64(globals);
     clear_u64(cells);
-    clear_u64(memo);
+    clear_u16(memo);
 }
 
 // What a run that ended answers: its value coded into the result slice, if it fits there, or its stop.

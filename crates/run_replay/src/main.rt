@@ -218,7 +218,7 @@ fn runs_as(image: &[u8], budget: usize, result: &mut [u8], line: &[u8], from: us
     let mut starts = [0usize; 256];
     let mut globals = [0u64; 512];
     let mut cells = [0u64; 8192];
-    let mut memo = [0u64; 4096];
+    let mut memo = [0u16; 4096];
     let a = run(
         image,
         budget,

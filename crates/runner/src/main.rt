@@ -31,7 +31,7 @@ fn answer_line(image: &[u8], out: &mut [u8]) -> usize
     let mut starts = [0usize; 256];
     let mut globals = [0u64; 512];
     let mut cells = [0u64; 8192];
-    let mut memo = [0u64; 4096];
+    let mut memo = [0u16; 4096];
     let a = run(
         image,
         1000000,

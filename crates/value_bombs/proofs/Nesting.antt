@@ -6,10 +6,9 @@ use mathlib.Core.List.{List, [], _∷_, _++_, map}
 use Prim.Native.Nat.{ℕ, zero, suc, _+_, _*_, _<_, _≤_}
 use native.Mathlib.Numerals.{add-one}
 use native.Mathlib.Omega.{arith}
-use native.Mathlib.Nat.{eq-or-lt-of-le}
-use lib.Seq.{getD-set-same, getD-set-other}
 use lib.Dec.{leb, ltb}
-use lib.ListN.{length, getD, take, drop, set, replicate}
+use lib.ListN.{length, getD, take, drop, set}
+use Rattle.clearing.specs.Zero.{AllZero}
 use Rattle.numbers.specs.declared.Number.{Number}
 use Rattle.definition.specs.Image.{Image, chunkAt, textAt}
 use Rattle.definition.specs.Value.{Value, Values, node, none, more, values, num, arr, nest, nestOver, nests, nestEmpty}
@@ -178,26 +177,21 @@ no-tables =
       chunks = λ a b. ((λ e. (refl, refl)), (λ e. none-there a ∙ sym (none-there b)));
     }
 
-zeros : (n i : ℕ) → _≡_ {A = ℕ} (getD (replicate {A = ℕ} n 0) i 0) 0
-zeros zero i = refl
-zeros (suc n) zero = refl
-zeros (suc n) (suc i) = zeros n i
-
 pub empty-asks : (ws : List ℕ) → 8192 ≤ length ws → NestedAsks ws 0
 empty-asks ws h = record { words = h; few = omega arith; formed = none-formed }
 
-pub equal-asks : (left left′ right right′ : Number) (depth n m : ℕ) (ws₀ ws₁ ws : List ℕ) (memo : List ℕ) (a b : VmValue) → memo ≡ replicate {A = ℕ} (length memo) 0 → 4096 ≤ length memo
+pub equal-asks : (left left′ right right′ : Number) (depth n m : ℕ) (ws₀ ws₁ ws : List ℕ) (memo : List ℕ) (a b : VmValue) → AllZero memo → 4096 ≤ length memo
     → NestedAt left left′ depth 0 ws₀ ws₁ a n → NestedAt right right′ depth n ws₁ ws b m → EqualAsks (0 ∷ []) (0 ∷ []) ws m memo a b
 equal-asks left left′ right right′ depth n m ws₀ ws₁ ws memo a b z l x y =
-    let none : (i : ℕ) → getD memo i 0 ≡ 0 = λ i. ap (λ (w : List ℕ). getD w i 0) z ∙ zeros (length memo) i in
     record {
       room = omega (arith, y .asks .few, y .asks .words);
+      few = y .asks .few;
       formed = y .asks .formed;
       left = y .older a (x .placed) .placed;
       right = y .placed;
       memo = omega (arith, y .asks .few);
-      down = down-none memo none;
-      told = λ im ct. memo-none im (treesOf (cellsOf m ws)) memo none;
+      down = down-none memo z;
+      told = λ im ct. memo-none im (treesOf (cellsOf m ws)) memo z;
     }
 
 pub equal-gives : (left left′ right right′ : Number) (depth n m : ℕ) (ws₀ ws₁ ws : List ℕ) (memo : List ℕ) (a b : VmValue) (r : Bool)
@@ -217,16 +211,3 @@ pub code-gives : (leaf last : Number) (depth n : ℕ) (ws₀ ws : List ℕ) (v :
 code-gives leaf last depth n ws₀ ws v l l′ r x g =
     let e : codeOf ws n v ≡ coded trees n (lastTree leaf last depth) = ap (coded trees n) (x .tree) in
     done n (g .answer ∙ ap (λ (bs : List ℕ). codedAnswer (leb (length bs) (length l)) bs) e) (g .out ∙ ap (λ (bs : List ℕ). codedOut (leb (length bs) (length l)) bs l) e)
-
--- ---- clearing
-pub cleared : (m : List ℕ) (i : ℕ) → i < length m → ((j : ℕ) → j < i → getD m j 0 ≡ 0) → (j : ℕ) → j < i + 1 → getD (set m i 0) j 0 ≡ 0
-cleared m i l h j k =
-    ⊎-elim (λ (e : j ≡ i). ap (λ (n : ℕ). getD (set m i 0) n 0) e ∙ getD-set-same m i 0 0 l)
-    (λ (q : j < i). getD-set-other m i j 0 0 (λ e. let z : ⊥ = omega arith in absurd z) ∙ h j q)
-    (eq-or-lt-of-le (omega arith))
-
-pub cleared-all : (m : List ℕ) (n : ℕ) → length m ≡ n → ((j : ℕ) → j < n → getD m j 0 ≡ 0) → m ≡ replicate {A = ℕ} n 0
-cleared-all [] zero e h = refl
-cleared-all [] (suc n) e h = let z : ⊥ = omega arith in absurd z
-cleared-all (x ∷ xs) zero e h = let z : ⊥ = omega arith in absurd z
-cleared-all (x ∷ xs) (suc n) e h = ap (λ (y : ℕ). y ∷ xs) (h 0 (omega arith)) ∙ ap (λ (l : List ℕ). 0 ∷ l) (cleared-all xs n (omega arith) (λ j l. h (suc j) (omega arith)))

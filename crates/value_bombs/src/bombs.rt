@@ -3,7 +3,7 @@
 ghost use mathlib.Core.Path.{_≡_};
 ghost use mathlib.Core.List.{[], _∷_};
 ghost use Prim.Native.Nat.{ℕ, _+_, _*_, _<_, _≤_};
-ghost use lib.ListN.{length, replicate};
+ghost use lib.ListN.{length};
 ghost use Rattle.definition.specs.Value.{arr};
 ghost use Rattle.values.specs.Words.{Fit};
 ghost use Rattle.values.specs.Building.{Builds};
@@ -11,6 +11,7 @@ ghost use Rattle.value_bombs.specs.Nested.{NestedAsks, GrownGives, Neste
 use super::Compared;
 use super::Grown;
 use super::Nested;
+use clearing::clear_u16;
 use numbers::Number;
 use value_coding::Coded;
 use values::Built;
@@ -70,16 +71,6 @@ fn nest(cells: &mut [u64], nc: usize, leaf: Number, last: Number, depth: usize) 
     Nested::At(y, n)
 }
 
-fn clear(memo: &mut [u64])
-    ensures { λ r. ⌜ now (memo .exit) ≡ replicate (length (now (memo .entry))) 0 ⌝ }
-{
-    let mut i = 0;
-    while i < memo.len() {
-        memo[i] = 0;
-        i += 1;
-    }
-}
-
 // Two such trees compared.
 pub fn compare_nested(
     left: Number,
@@ -88,7 +79,7 @@ pub fn compare_nested(
     right_last: Number,
     depth: usize,
     cells: &mut [u64],
-    memo: &mut [u64],
+    memo: &mut [u16],
 ) -> Compared
     ensures { λ r. ⌜ ComparedGives left «left_last» right «right_last» depth r ⌝ }
 {
@@ -98,7 +89,7 @@ pub fn compare_nested(
     if memo.len() < 4096 {
         return Compared::NotBuilt;
     }
-    clear(memo);
+    clear_u16(memo);
     match nest(cells, 0, left, left_last, depth) {
         Nested::At(a, n) => match nest(cells, n, right, right_last, depth) {
             Nested::At(b, m) => {

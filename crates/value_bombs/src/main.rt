@@ -60,14 +60,14 @@ fn compare(
     right: Number,
     right_last: Number,
     cells: &mut [u64],
-    memo: &mut [u64],
+    memo: &mut [u16],
 ) {
     say_compared(compare_nested(left, left_last, right, right_last, 64, cells, memo));
 }
 
 fn main() {
     let mut cells = [0u64; 8192];
-    let mut memo = [0u64; 4096];
+    let mut memo = [0u16; 4096];
     let mut out = [0u8; 4096];
     let one = Number::Int(1);
     let two = Number::Int(2);

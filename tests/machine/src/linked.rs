@@ -114,7 +114,7 @@ exported! {
         starts: usize = 256,
         globals: u64 = 512,
         cells: u64 = 8_192,
-        memo: u64 = 4_096,
+        memo: u16 = 4_096,
     ]
     answers [count, length, line, chunk, offset]
 }

@@ -5,13 +5,13 @@ use Rattle.value_bombs.proofs.Nesting.{empty-asks, equal-asks, equal-gi
 use Rattle.value_bombs.specs.declared.Nested.{Nested}
 use Rattle.value_bombs.specs.Nested.{NestedGives, NestedAt}
 use mathlib.Core.List.{List}
-use lib.ListN.{length, replicate}
+use lib.ListN.{length}
 use borrow.Author.Needs.{needs}
 use Rattle.value_bombs.proofs.bombs.compare_nested.Statement.{statement}
 use Rattle.value_bombs.proofs.bombs.compare_nested.Tie as tie
 use Rattle.value_bombs.proofs.bombs.compare_nested.Reads as reads
 use Rattle.value_bombs.proofs.bombs.compare_nested.Lts as lts
-use Rattle.value_bombs.proofs.bombs.clear.Reads as clear-reads
+use Rattle.clearing.proofs.clear_u16.Reads as clear-u16-reads
 use Rattle.value_bombs.proofs.bombs.nest.Reads as nest-reads
 use Rattle.value_equality.proofs.equal.Reads as equal-reads
 
@@ -21,8 +21,8 @@ returns c = search needs
 returns-2 : tie.Need-returns-2
 returns-2 c = search needs
 
-clear-requires : tie.Need-clear-requires
-clear-requires c κs = search needs
+clear-u16-requires : tie.Need-clear-u16-requires
+clear-u16-requires c κs = search needs
 
 nest-requires : tie.Need-nest-requires
 nest-requires c κs = empty-asks (c .before .before .before .before .before .before .before .before .before .args .cells .now) (c .before .before .before .before .before .before .if1 .left)
@@ -43,7 +43,7 @@ slice-aggregate-equal-2 : tie.Need-slice-aggregate-equal-2
 slice-aggregate-equal-2 c = search needs
 
 equal-requires : tie.Need-equal-requires
-equal-requires c κs = equal-asks (c .before .before .before .before .before .before .before .before .before .before .before .before .before .before .before .before .before .before .before .before .before .before .before .before .before .before .args .left) (c .before .before .before .before .before .before .before .before .before .before .before .before .before .before .before .before .before .before .before .before .before .before .before .before .before .before .args .left-last) (c .before .before .before .before .before .before .before .before .before .before .before .before .before .before .before .before .before .before .before .before .before .before .before .before .before .before .args .right) (c .before .before .before .before .before .before .before .before .before .before .before .before .before .before .before .before .before .before .before .before .before .before .before .before .before .before .args .right-last) (c .before .before .before .before .before .before .before .before .before .before .before .before .before .before .before .before .before .before .before .before .before .before .before .before .before .before .args .depth) (c .before .before .before .before .before .before .before .before .before .before .before .before .a .given .0 .1 .0) (c .before .before .before .before .before .b .given .0 .1 .0) (c .before .before .before .before .before .before .before .before .before .before .before .before .before .before .before .before .before .before .before .before .before .before .before .before .before .before .args .cells .now) (c .before .before .before .before .before .before .before .before .before .before .before .before .before .before .before .before .nest .last .0) (c .before .before .before .before .before .before .before .before .before .nest2 .last .0) (c .before .before .before .before .before .before .before .before .before .before .before .before .before .before .before .before .before .before .before .before .clear .last .0) (c .before .before .before .before .before .before .before .before .before .before .before .before .a .given .0 .0) (c .before .before .before .before .before .b .given .0 .0) ((c .before .before .before .before .before .before .before .before .before .before .before .before .before .before .before .before .before .before .before .before .clear .ensures) ∙ ap (λ (n : ℕ). replicate {A = ℕ} n 0) (sym ((c .before .before .before .before .before .before .before .before .before .before .before .before .before .before .before .before .before .before .before .before .clear .kept) .0))) (omega (arith, (c .before .before .before .before .before .before .before .before .before .before .before .before .before .before .before .before .before .before .before .before .before .before .if2 .left), (c .before .before .before .before .before .before .before .before .before .before .before .before .before .before .before .before .before .before .before .before .clear .kept) .0)) (subst (λ (r : Nested). NestedGives (c .before .before .before .before .before .before .before .before .before .before .before .before .before .before .before .before .before .before .before .before .before .before .before .before .before .before .args .left) (c .before .before .before .before .before .before .before .before .before .before .before .before .before .before .before .before .before .before .before .before .before .before .before .before .before .before .args .left-last) (c .before .before .before .before .before .before .before .before .before .before .before .before .before .before .before .before .before .before .before .before .before .before .before .before .before .before .args .depth) 0 (c .before .before .before .before .before .before .before .before .before .before .before .before .before .before .before .before .before .before .before .before .before .before .before .before .before .before .args .cells .now) (c .before .before .before .before .before .before .before .before .before .before .before .before .before .before .before .before .nest .last .0) r) (c .before .before .before .before .before .before .before .before .before .before .before .before .a .given .1) (c .before .before .before .before .before .before .before .before .before .before .before .before .before .before .before .before .nest .ensures)) (subst (λ (r : Nested). NestedGives (c .before .before .before .before .before .before .before .before .before .before .before .before .before .before .before .before .before .before .before .before .before .before .before .before .before .before .args .right) (c .before .before .before .before .before .before .before .before .before .before .before .before .before .before .before .before .before .before .before .before .before .before .before .before .before .before .args .right-last) (c .before .before .before .before .before .before .before .before .before .before .before .before .before .before .before .before .before .before .before .before .before .before .before .before .before .before .args .depth) (c .before .before .before .before .before .before .before .before .before .before .before .before .a .given .0 .1 .0) (c .before .before .before .before .before .before .before .before .before .before .before .before .before .before .before .before .nest .last .0) (c .before .before .before .before .before .before .before .before .before .nest2 .last .0) r) (c .before .before .before .before .before .b .given .1) (c .before .before .before .before .before .before .before .before .before .nest2 .ensures))
+equal-requires c κs = equal-asks (c .before .before .before .before .before .before .before .before .before .before .before .before .before .before .before .before .before .before .before .before .before .before .before .before .before .before .args .left) (c .before .before .before .before .before .before .before .before .before .before .before .before .before .before .before .before .before .before .before .before .before .before .before .before .before .before .args .left-last) (c .before .before .before .before .before .before .before .before .before .before .before .before .before .before .before .before .before .before .before .before .before .before .before .before .before .before .args .right) (c .before .before .before .before .before .before .before .before .before .before .before .before .before .before .before .before .before .before .before .before .before .before .before .before .before .before .args .right-last) (c .before .before .before .before .before .before .before .before .before .before .before .before .before .before .before .before .before .before .before .before .before .before .before .before .before .before .args .depth) (c .before .before .before .before .before .before .before .before .before .before .before .before .a .given .0 .1 .0) (c .before .before .before .before .before .b .given .0 .1 .0) (c .before .before .before .before .before .before .before .before .before .before .before .before .before .before .before .before .before .before .before .before .before .before .before .before .before .before .args .cells .now) (c .before .before .before .before .before .before .before .before .before .before .before .before .before .before .before .before .nest .last .0) (c .before .before .before .before .before .before .before .before .before .nest2 .last .0) (c .before .before .before .before .before .before .before .before .before .before .before .before .before .before .before .before .before .before .before .before .clear-u16 .last .0) (c .before .before .before .before .before .before .before .before .before .before .before .before .a .given .0 .0) (c .before .before .before .before .before .b .given .0 .0) (c .before .before .before .before .before .before .before .before .before .before .before .before .before .before .before .before .before .before .before .before .clear-u16 .ensures) (omega (arith, (c .before .before .before .before .before .before .before .before .before .before .before .before .before .before .before .before .before .before .before .before .before .before .if2 .left), (c .before .before .before .before .before .before .before .before .before .before .before .before .before .before .before .before .before .before .before .before .clear-u16 .kept) .0)) (subst (λ (r : Nested). NestedGives (c .before .before .before .before .before .before .before .before .before .before .before .before .before .before .before .before .before .before .before .before .before .before .before .before .before .before .args .left) (c .before .before .before .before .before .before .before .before .before .before .before .before .before .before .before .before .before .before .before .before .before .before .before .before .before .before .args .left-last) (c .before .before .before .before .before .before .before .before .before .before .before .before .before .before .before .before .before .before .before .before .before .before .before .before .before .before .args .depth) 0 (c .before .before .before .before .before .before .before .before .before .before .before .before .before .before .before .before .before .before .before .before .before .before .before .before .before .before .args .cells .now) (c .before .before .before .before .before .before .before .before .before .before .before .before .before .before .before .before .nest .last .0) r) (c .before .before .before .before .before .before .before .before .before .before .before .before .a .given .1) (c .before .before .before .before .before .before .before .before .before .before .before .before .before .before .before .before .nest .ensures)) (subst (λ (r : Nested). NestedGives (c .before .before .before .before .before .before .before .before .before .before .before .before .before .before .before .before .before .before .before .before .before .before .before .before .before .before .args .right) (c .before .before .before .before .before .before .before .before .before .before .before .before .before .before .before .before .before .before .before .before .before .before .before .before .before .before .args .right-last) (c .before .before .before .before .before .before .before .before .before .before .before .before .before .before .before .before .before .before .before .before .before .before .before .before .before .before .args .depth) (c .before .before .before .before .before .before .before .before .before .before .before .before .a .given .0 .1 .0) (c .before .before .before .before .before .before .before .before .before .before .before .before .before .before .before .before .nest .last .0) (c .before .before .before .before .before .before .before .before .before .nest2 .last .0) r) (c .before .before .before .before .before .b .given .1) (c .before .before .before .before .before .before .before .before .before .nest2 .ensures))
 
 enum-told : tie.Need-enum-told
 enum-told c = search needs
@@ -84,7 +84,7 @@ compare-nested-spec =
     (tie.spec
     returns
     returns-2
-    clear-requires
+    clear-u16-requires
     nest-requires
     enum-known-a
     nest-requires-2
