@@ -3,7 +3,7 @@ use mathlib.Core.Path.{_≡_, refl, ap, _∙_}
 use mathlib.Core.Bool.{Bool, true, false, cond, _&&_}
 use mathlib.Core.List.{List, [], _∷_, _++_, append-assoc, append-nil}
 use mathlib.Core.Option.{Option, none, some}
-use Prim.Native.Nat.{ℕ, suc, _+_, _*_, _-_, _≤_, _<_}
+use Prim.Native.Nat.{ℕ, suc, _+_, _*_, _-_, _%_, _≤_, _<_}
 use native.Mathlib.Numerals.{add-one}
 use native.Mathlib.Omega.{arith}
 use borrow.Author.Tests.{lt-ltb, le-leb, lt-leb, ne-eqb}
@@ -26,16 +26,17 @@ bytes-two l p h =
     let e₂ : p + 2 ≡ suc (suc p) = omega arith in
     rw (e, e₂, drop-cons l p 0 h₀, drop-cons l (suc p) 0 h₁)
 
-bytes-one : (l : List ℕ) (p : ℕ) → p < length l → length l - p < 2 → bytesOf (drop p l) ≡ none
+bytes-odd : (l : List ℕ) → length l % 2 ≡ 1 → bytesOf l ≡ none
 unfolding bytesOf
-bytes-one l p h g =
-    let n : length l ≤ suc p = omega arith in
-    rw (drop-cons l p 0 h, drop-of-length-le l n)
+bytes-odd [] e = let z : ⊥ = omega arith in absurd z
+bytes-odd (a ∷ []) e = refl
+bytes-odd (a ∷ b ∷ r) e = ap (withByte (digit a) (digit b)) (bytes-odd r (omega arith))
+
+-- a place behind whole pairs of an even number of digits has two digits more, or none
+pub pair-left : (n i p : ℕ) → (n % 2 ≡ 1 → ⊥) → 2 * i + 2 ≡ p → p < n → p + 1 < n
+pair-left n i p even e l = omega arith
 
 module _ (l q : List ℕ) (p : ℕ) (inv : bytesOf l ≡ prepend q (bytesOf (drop p l))) where
-  pub decode-odd : p < length l → length l - p < 2 → bytesOf l ≡ none
-  decode-odd h g = inv ∙ rw (bytes-one l p h g)
-
   pub decode-first : p + 1 < length l → digit (getD l p 0) ≡ 16 → bytesOf l ≡ none
   decode-first h e = inv ∙ rw (bytes-two l p h, e) (none-first (bytesOf (drop (p + 2) l)))
     where
@@ -92,6 +93,9 @@ line-none l e = rw e (either (leb (length l) 512))
 pub line-some : (l : List ℕ) (t : ℕ) (b : List ℕ) → length l ≤ 512 → bytesOf l ≡ some (t ∷ b) → line t b ≡ lineOf l
 unfolding lineOf
 line-some l t b h e = rw (le-leb (length l) 512 h, e)
+
+pub line-odd : (l : List ℕ) → length l % 2 ≡ 1 → faulty ≡ lineOf l
+line-odd l e = line-none l (bytes-odd l e)
 
 pub line-long : (l : List ℕ) → 512 < length l → faulty ≡ lineOf l
 unfolding lineOf

@@ -13,20 +13,18 @@ pub enum Read {
 }
 
 // The value of an upper-case hexadecimal digit; 16 of anything else.
-fn hex(x: u8) -> u8
+pub fn hex(x: u8) -> u8
     ensures { λ r. ⌜ (r ≡ digit x) × (r ≤ 16) ⌝ }
 {
-    if x < 48 {
-        return 16;
+    if 48 <= x {
+        if x <= 57 {
+            return x - 48;
+        }
     }
-    if x <= 57 {
-        return x - 48;
-    }
-    if x < 65 {
-        return 16;
-    }
-    if x <= 70 {
-        return x - 55;
+    if 65 <= x {
+        if x <= 70 {
+            return x - 55;
+        }
     }
     16
 }
@@ -62,11 +60,14 @@ pub fn read_line(digits: &[u8], out: &mut [u8]) -> Read
     if 512 < size {
         return Read::Faulty;
     }
+    if size % 2 == 1 {
+        return Read::Faulty;
+    }
     let a = hex(digits[0]);
-    let b = hex(digits[1]);
     if a == 16 {
         return Read::Faulty;
     }
+    let b = hex(digits[1]);
     if b == 16 {
         return Read::Faulty;
     }
@@ -74,14 +75,11 @@ pub fn read_line(digits: &[u8], out: &mut [u8]) -> Read
     let mut i = 0;
     let mut p = 2;
     while p < size {
-        if size - p < 2 {
-            return Read::Faulty;
-        }
         let a = hex(digits[p]);
-        let b = hex(digits[p + 1]);
         if a == 16 {
             return Read::Faulty;
         }
+        let b = hex(digits[p + 1]);
         if b == 16 {
             return Read::Faulty;
         }

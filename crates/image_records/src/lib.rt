@@ -52,8 +52,8 @@ pub enum Record {
     Fault(Reason),
 }
 
-// The width of a constant's payload by its kind; 14 to 19 are not listed.
-const WIDTHS: [usize; 21] = [
+// The width of a constant's payload by its kind; 14 to 19 are not listed. In bytes, since the compiler puts all of it on the stack where it is read.
+const WIDTHS: [u8; 21] = [
     0,
     8,
     8,
@@ -230,7 +230,7 @@ fn width_of(kind: u8) -> usize
     ensures { λ r. ⌜ (r ≡ widthOf kind) × (r ≤ 8) ⌝ }
 {
     let k = wide(kind);
-    if k < 21 { WIDTHS[k] } else { 0 }
+    if k < 21 { wide(WIDTHS[k]) } else { 0 }
 }
 
 fn is_scalar(v: u64) -> bool

@@ -8,10 +8,11 @@ mod list;
 
 ghost use Prim.Native.Nat.{_≤_};
 use case_list::after;
-use case_list::line_end;
 use case_list::put;
 use image::LoadAnswer;
 use image::load;
+use image_lines::hex;
+use image_lines::line_end;
 use libc::STDOUT_FILENO;
 use list::answer_mark;
 use list::image_end;
@@ -38,25 +39,6 @@ fn well_formed(line: &[u8]) -> bool {
         }
     }
     false
-}
-
-// The value of an upper-case hexadecimal digit; 16 of anything else.
-fn hex(x: u8) -> u8
-    ensures { λ r. ⌜ r ≤ 16 ⌝ }
-{
-    if x < 48 {
-        return 16;
-    }
-    if x <= 57 {
-        return x - 48;
-    }
-    if x < 65 {
-        return 16;
-    }
-    if x <= 70 {
-        return x - 55;
-    }
-    16
 }
 
 // What `decode` answers where the line is not of the form `! HEX`, or has more bytes than fit.

@@ -6,8 +6,8 @@
 ghost use Prim.Native.Nat.{_≤_};
 ghost use lib.ListN.{length};
 use case_list::after;
-use case_list::line_end;
 use case_list::put;
+use image_lines::line_end;
 use libc::STDOUT_FILENO;
 use rl_vm::RunAnswer;
 use rl_vm::refusal_number;

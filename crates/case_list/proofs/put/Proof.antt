@@ -1,48 +1,66 @@
 use Rattle.case_list.proofs.put.Statement.{statement}
 use Rattle.case_list.proofs.put.Tie as tie
 use native.Mathlib.Omega.{arith}
-use mathlib.Core.Path.{_≡_, refl}
-use Prim.Native.Nat.{_-_, _≤_}
-use lib.ListN.{length, length-set}
+use borrow.Author.Needs.{needs}
+use mathlib.Core.Path.{_≡_, refl, _∙_, ap, subst}
+use mathlib.Core.List.{List}
+use Prim.Native.Nat.{ℕ, suc, _+_, _-_, _≤_}
+use lib.ListN.{length, getD, set, length-set}
+use lib.Seq.{paste, paste-zero, paste-suc}
+use Rattle.case_list.specs.Put.{fitting}
 
 abbrev Inv-loop : tie.InvT-loop
-Inv-loop out₀ at word i₀ to₀ out i to = (length out ≡ length out₀) × (to ≤ length out₀)
+Inv-loop out₀ at word i₀ out i = (i ≤ length word) × (at + i ≤ length out₀) × (length out ≡ length out₀) × (out ≡ paste out₀ at word i)
 
 abbrev μ-loop : tie.MeasureT-loop
-μ-loop out₀ at word i₀ to₀ out i to = length word - i
+μ-loop out₀ at word i₀ out i = length word - i
 
 loop-holds : tie.Need-loop-holds Inv-loop μ-loop
-loop-holds c = (refl, omega (arith, (c .pre)))
-
-same-length : tie.Need-same-length Inv-loop μ-loop
-same-length c = (c .before .before .loop .inv .0)
-
-returns : tie.Need-returns Inv-loop μ-loop
-returns c = omega arith
-
-shared-slice-read-out : tie.Need-shared-slice-read-out Inv-loop μ-loop
-shared-slice-read-out c = omega arith
-
-slice-write-out : tie.Need-slice-write-out Inv-loop μ-loop
-slice-write-out c = omega arith
+loop-holds c = (omega arith, omega (arith, (c .pre)), refl, paste-zero (c .args .out .now) (c .args .at) (c .args .word .now))
 
 add-to : tie.Need-add-to Inv-loop μ-loop
-add-to c = omega arith
+add-to c = search needs
+
+same-length : tie.Need-same-length Inv-loop μ-loop
+same-length c = (c .before .before .loop .inv .2)
+
+returns : tie.Need-returns Inv-loop μ-loop
+returns c =
+    let n : (c .before .before .loop .i) ≡ fitting (c .before .before .before .args .out .now) (c .before .before .before .args .at) (c .before .before .before .args .word .now) = omega (arith, (c .if1 .taken), (c .before .loop-test .taken), (c .before .before .loop .inv .1), (c .before .before .loop .inv .2)) in
+    (omega (arith, (c .before .before .loop .inv .1), (c .before .before .loop .inv .2)), (ap (λ (k : ℕ). (c .before .before .before .args .at) + k) n, (c .before .before .loop .inv .3) ∙ ap (paste (c .before .before .before .args .out .now) (c .before .before .before .args .at) (c .before .before .before .args .word .now)) n))
+
+shared-slice-read-out : tie.Need-shared-slice-read-out Inv-loop μ-loop
+shared-slice-read-out c = (c .before .before .loop-test .taken)
+
+slice-write-out : tie.Need-slice-write-out Inv-loop μ-loop
+slice-write-out c = omega (arith, (c .before .if1 .left))
 
 add-i : tie.Need-add-i Inv-loop μ-loop
-add-i c = omega arith
+add-i c = search needs
 
 loop-less : tie.Need-loop-less Inv-loop μ-loop
-loop-less c = omega arith
+loop-less c = omega (arith, (c .before .before .loop-test .taken))
 
 loop-again : tie.Need-loop-again Inv-loop μ-loop
-loop-again c = (simp length-set (c .before .before .before .loop .inv .0), omega (arith, (c .before .before .before .loop .inv .0)))
+loop-again c = (
+  omega (arith, (c .before .before .loop-test .taken)),
+  omega (arith, (c .before .if1 .left), (c .before .before .before .loop .inv .2)),
+  length-set (c .before .before .before .loop .out) ((c .before .before .before .before .args .at) + (c .before .before .before .loop .i)) (getD (c .before .before .before .before .args .word .now) (c .before .before .before .loop .i) 0) ∙ (c .before .before .before .loop .inv .2),
+  ap (λ (x : List ℕ). set x ((c .before .before .before .before .args .at) + (c .before .before .before .loop .i)) (getD (c .before .before .before .before .args .word .now) (c .before .before .before .loop .i) 0)) (c .before .before .before .loop .inv .3)
+      ∙ paste-suc (c .before .before .before .before .args .out .now) (c .before .before .before .before .args .at) (c .before .before .before .before .args .word .now) (c .before .before .before .loop .i) 0 (omega (arith, (c .before .if1 .left), (c .before .before .before .loop .inv .2))) (c .before .before .loop-test .taken)
+      ∙ ap (paste (c .before .before .before .before .args .out .now) (c .before .before .before .before .args .at) (c .before .before .before .before .args .word .now)) (let e : suc (c .before .before .before .loop .i) ≡ (c .before .before .before .loop .i) + 1 = omega arith in e),
+)
+
+add-result : tie.Need-add-result Inv-loop μ-loop
+add-result c = search needs
 
 same-length-2 : tie.Need-same-length-2 Inv-loop μ-loop
-same-length-2 c = (c .before .loop .inv .0)
+same-length-2 c = (c .before .loop .inv .2)
 
 returns-2 : tie.Need-returns-2 Inv-loop μ-loop
-returns-2 c = omega arith
+returns-2 c =
+    let n : (c .before .loop .i) ≡ fitting (c .before .before .args .out .now) (c .before .before .args .at) (c .before .before .args .word .now) = omega (arith, (c .loop-test .left), (c .before .loop .inv .0), (c .before .loop .inv .1)) in
+    (omega (arith, (c .before .loop .inv .1), (c .before .loop .inv .2)), (ap (λ (k : ℕ). (c .before .before .args .at) + k) n, (c .before .loop .inv .3) ∙ ap (paste (c .before .before .args .out .now) (c .before .before .args .at) (c .before .before .args .word .now)) n))
 
 pub put-spec : {M : Type 1} → statement M
 put-spec =
@@ -51,13 +69,14 @@ put-spec =
     Inv-loop
     μ-loop
     loop-holds
+    add-to
     same-length
     returns
     shared-slice-read-out
     slice-write-out
-    add-to
     add-i
     loop-less
     loop-again
+    add-result
     same-length-2
     returns-2)

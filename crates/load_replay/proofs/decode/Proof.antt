@@ -60,10 +60,10 @@ returns-4 : tie.Need-returns-4 Inv-loop μ-loop
 returns-4 c = tt
 
 mul-out : tie.Need-mul-out Inv-loop μ-loop
-mul-out c = omega (arith, (c .before .before .before .before .before .hex .ensures))
+mul-out c = omega (arith, (c .before .before .before .before .before .hex .ensures .1))
 
 add-out : tie.Need-add-out Inv-loop μ-loop
-add-out c = omega (arith, (c .before .before .before .before .before .hex .ensures), (c .before .before .before .hex2 .ensures))
+add-out c = omega (arith, (c .before .before .before .before .before .hex .ensures .1), (c .before .before .before .hex2 .ensures .1))
 
 slice-write-out : tie.Need-slice-write-out Inv-loop μ-loop
 slice-write-out c = omega arith
