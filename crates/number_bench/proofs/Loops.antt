@@ -1,5 +1,8 @@
 -- The turns of a loop, and the number that it starts from. Assumes nothing.
 use mathlib.Core.Path.{_≡_, refl, sym, ap, _∙_, subst}
+use mathlib.Core.List.{[], _∷_}
+use mathlib.Core.Logic.{⊎-elim}
+use types.Run.{OneOf}
 use Prim.Native.Nat.{ℕ, zero, suc, _+_, _%_, _^_, _<_}
 use native.Mathlib.Numerals.{add-one}
 use native.Mathlib.Omega.{arith}
@@ -16,7 +19,7 @@ use Rattle.numbers.specs.Casts.{castOf}
 use Rattle.number_codes.specs.declared.FoundNumber.{FoundNumber}
 use Rattle.number_codes.specs.declared.FoundNumber.the-variants.{Found, NoNumber}
 use Rattle.number_codes.specs.Payloads.{payloadOf, numberOfPayload}
-use Rattle.number_bench.specs.Turns.{orZero, numberAt, onto, turns, Ends, steps, paceOf, countOn, valueOr, back, thereAndBack}
+use Rattle.number_bench.specs.Turns.{orZero, numberAt, onto, turns, Ends, Stops, steps, paceOf, countOn, valueOr, back, thereAndBack}
 
 pub found-is : (kind word : ℕ) {x : Number} {r : FoundNumber} → r ≡ numberOfPayload kind word → r ≡ Found x → x ≡ numberAt kind word
 unfolding numberAt
@@ -36,17 +39,29 @@ unfolding turns
 next-turn f i x y z t e g = ap (λ (n : ℕ). turns f n x) (add-one i) ∙ ap (onto f) t ∙ sym e ∙ g
 
 -- all turns were made
-pub all-turns : (f : Number → Number → NumberAnswer) (n i : ℕ) (x y x′ y′ z : Number) {last : ℕ} → x ≡ x′ → y ≡ y′ → i ≡ n → turns (λ a. f a y) i x ≡ Value z → last ≡ payloadOf z → Ends (λ a. f a y′) n x′ last
-all-turns f n i x y x′ y′ z {last} p q k t l =
+pub all-turns : (f : Number → Number → NumberAnswer) (n i : ℕ) (x y x′ y′ z : Number) {left : ℕ} → x ≡ x′ → y ≡ y′ → i ≡ n → turns (λ a. f a y) i x ≡ Value z → left ≡ payloadOf z → Ends (λ a. f a y′) n x′ i left
+all-turns f n i x y x′ y′ z {left} p q k t l =
     record {
+      all = k;
       number = z;
       turned = subst (λ (b : Number). turns (λ a. f a b) n x′ ≡ Value z) q (subst (λ (a : Number). turns (λ w. f w y) n a ≡ Value z) p (subst (λ (m : ℕ). turns (λ w. f w y) m x ≡ Value z) k t));
-      left = l;
+      payload = l;
     }
 
--- a turn that answered a fault is before the last
-pub left-early : {A : Type 0} {n i : ℕ} → i < n → i ≡ n → A
-left-early l e = let z : ⊥ = omega arith in absurd z
+-- the four other answers' tags are not the value's
+pub other-tag : (t : ℕ) → OneOf (1 ∷ 2 ∷ 3 ∷ 4 ∷ []) t → t ≡ 0 → ⊥
+other-tag t k z = ⊎-elim (λ e. omega arith) (⊎-elim (λ e. omega arith) (⊎-elim (λ e. omega arith) (λ e. omega arith))) k
+
+-- a turn answered a fault
+pub faulted : (f : Number → Number → NumberAnswer) (n i : ℕ) (x y x′ y′ z : Number) {r : NumberAnswer} {lent : ℕ} → x ≡ x′ → y ≡ y′ → i < n → turns (λ a. f a y) i x ≡ Value z → r ≡ f z y → ((v : Number) → r ≡ Value v → ⊥) → Stops (λ a. f a y′) n x′ i lent lent
+faulted f n i x y x′ y′ z p q k t e none =
+    record {
+      early = k;
+      number = z;
+      turned = subst (λ (b : Number). turns (λ a. f a b) i x′ ≡ Value z) q (subst (λ (a : Number). turns (λ w. f w y) i a ≡ Value z) p t);
+      fault = λ v h. none v (e ∙ ap (f z) q ∙ h);
+      kept = refl;
+    }
 
 -- ---- the loops that no fault ends
 pub no-step : {A : Type 0} (f : A → A) (a : A) → steps f 0 a ≡ a

@@ -1,7 +1,8 @@
 -- What the loops compute: so many turns of one operation of the definition, each on what the turn before answered.
 use mathlib.Core.Path.{_≡_}
 use mathlib.Core.Bool.{cond}
-use Prim.Native.Nat.{ℕ, zero, suc, _+_, _%_, _^_}
+use mathlib.Core.Logic.{_⊎_}
+use Prim.Native.Nat.{ℕ, zero, suc, _+_, _%_, _^_, _<_}
 use lib.IntN.{pos}
 use Rattle.numbers.specs.declared.Number.{Number}
 use Rattle.numbers.specs.declared.Number.the-variants.{Int}
@@ -37,15 +38,24 @@ unfoldable pub turns : (Number → NumberAnswer) → ℕ → Number → NumberAn
 turns f zero x = Value x
 turns f (suc n) x = onto f (turns f n x)
 
--- n turns from x end in a number, whose payload `last` is
-pub record Ends (f : Number → NumberAnswer) (n : ℕ) (x : Number) (last : ℕ) : Type 0 where
+-- all n turns from x were made, and came to a number, whose payload is left
+pub record Ends (f : Number → NumberAnswer) (n : ℕ) (x : Number) (r left : ℕ) : Type 0 where
+  pub all : r ≡ n
   pub number : Number
   pub turned : turns f n x ≡ Value number
-  pub left : last ≡ payloadOf number
+  pub payload : left ≡ payloadOf number
+
+-- the turn after r of them is a fault, and what was lent is left as it was
+pub record Stops (f : Number → NumberAnswer) (n : ℕ) (x : Number) (r lent left : ℕ) : Type 0 where
+  pub early : r < n
+  pub number : Number
+  pub turned : turns f r x ≡ Value number
+  pub fault : (y : Number) → f number ≡ Value y → ⊥
+  pub kept : left ≡ lent
 
 -- what a loop of n turns gives that made r of them
-abbrev pub Gives : (Number → NumberAnswer) → ℕ → Number → ℕ → ℕ → Type 0
-Gives f n x r last = r ≡ n → Ends f n x last
+abbrev pub Gives : (Number → NumberAnswer) → ℕ → Number → ℕ → ℕ → ℕ → Type 0
+Gives f n x r lent left = Ends f n x r left ⊎ Stops f n x r lent left
 
 -- ---- the loops of Less and Cast, which no fault ends: so many steps
 unfoldable pub steps : {A : Type 0} → (A → A) → ℕ → A → A

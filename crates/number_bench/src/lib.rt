@@ -48,7 +48,7 @@ fn pace(answer: ComparisonAnswer) -> u64
 // It alone calls `add`, as a machine has one place that adds.
 #[no_mangle]
 pub extern "C" fn bench_add(n: u64, kind: u8, first: u64, second: u64, last: &mut u64) -> u64
-    ensures { λ r. ⌜ Gives (λ x. addOf x (numberAt kind second)) n (numberAt kind first) r (now (last .exit)) ⌝ }
+    ensures { λ r. ⌜ Gives (λ x. addOf x (numberAt kind second)) n (numberAt kind first) r (now (last .entry)) (now (last .exit)) ⌝ }
 {
     let mut i: u64 = 0;
     let mut acc = number(kind, first);
@@ -70,7 +70,7 @@ pub extern "C" fn bench_add(n: u64, kind: u8, first: u64, second: u64, last: &mu
 
 #[no_mangle]
 pub extern "C" fn bench_sub(n: u64, kind: u8, first: u64, second: u64, last: &mut u64) -> u64
-    ensures { λ r. ⌜ Gives (λ x. subOf x (numberAt kind second)) n (numberAt kind first) r (now (last .exit)) ⌝ }
+    ensures { λ r. ⌜ Gives (λ x. subOf x (numberAt kind second)) n (numberAt kind first) r (now (last .entry)) (now (last .exit)) ⌝ }
 {
     let mut i: u64 = 0;
     let mut acc = number(kind, first);
@@ -92,7 +92,7 @@ pub extern "C" fn bench_sub(n: u64, kind: u8, first: u64, second: u64, last: &mu
 
 #[no_mangle]
 pub extern "C" fn bench_mul(n: u64, kind: u8, first: u64, second: u64, last: &mut u64) -> u64
-    ensures { λ r. ⌜ Gives (λ x. mulOf x (numberAt kind second)) n (numberAt kind first) r (now (last .exit)) ⌝ }
+    ensures { λ r. ⌜ Gives (λ x. mulOf x (numberAt kind second)) n (numberAt kind first) r (now (last .entry)) (now (last .exit)) ⌝ }
 {
     let mut i: u64 = 0;
     let mut acc = number(kind, first);
