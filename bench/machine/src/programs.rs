@@ -18,7 +18,7 @@ impl Program {
     }
 }
 
-pub const PROGRAMS: [Program; 5] = [
+pub const PROGRAMS: [Program; 10] = [
     Program {
         name: "Int arithmetic",
         text: INTEGERS,
@@ -28,6 +28,31 @@ pub const PROGRAMS: [Program; 5] = [
         name: "Float arithmetic",
         text: FLOATS,
         rounds: 590_000,
+    },
+    Program {
+        name: "SFloat arithmetic",
+        text: SMALL_FLOATS,
+        rounds: 590_000,
+    },
+    Program {
+        name: "SInt arithmetic",
+        text: SMALL_INTEGERS,
+        rounds: 470_000,
+    },
+    Program {
+        name: "UInt arithmetic",
+        text: WORDS,
+        rounds: 470_000,
+    },
+    Program {
+        name: "Int Div, Negate",
+        text: DIVISIONS,
+        rounds: 560_000,
+    },
+    Program {
+        name: "Cast, Float Less",
+        text: CASTS,
+        rounds: 500_000,
     },
     Program {
         name: "calls",
@@ -111,6 +136,183 @@ again:
   Loop again
 done:
   GetLocal x
+  Return
+";
+
+/// The same in SFloat.
+const SMALL_FLOATS: &str = "
+chunk top/0
+  local x = 0
+  local i = 1
+  PushScope
+  Const SFloat 0.0
+  DefineLocal x
+  Const Int 0
+  DefineLocal i
+again:
+  GetLocal i
+  Const Int ROUNDS
+  Less
+  JumpIfFalse done
+  GetLocal x
+  Const SFloat 0.5
+  Mul
+  Const SFloat 1.25
+  Add
+  SetLocal x
+  Pop
+  GetLocal i
+  Const Int 1
+  Add
+  SetLocal i
+  Pop
+  Loop again
+done:
+  GetLocal x
+  Return
+";
+
+/// x = (x + 3) * 2 - x - 6, all in SInt, the count too; 21 instructions a round.
+const SMALL_INTEGERS: &str = "
+chunk top/0
+  local x = 0
+  local i = 1
+  PushScope
+  Const SInt 5
+  DefineLocal x
+  Const SInt 0
+  DefineLocal i
+again:
+  GetLocal i
+  Const SInt ROUNDS
+  Less
+  JumpIfFalse done
+  GetLocal x
+  Const SInt 3
+  Add
+  Const SInt 2
+  Mul
+  GetLocal x
+  Sub
+  Const SInt 6
+  Sub
+  SetLocal x
+  Pop
+  GetLocal i
+  Const SInt 1
+  Add
+  SetLocal i
+  Pop
+  Loop again
+done:
+  GetLocal x
+  Return
+";
+
+/// The same in UInt.
+const WORDS: &str = "
+chunk top/0
+  local x = 0
+  local i = 1
+  PushScope
+  Const UInt 5
+  DefineLocal x
+  Const UInt 0
+  DefineLocal i
+again:
+  GetLocal i
+  Const UInt ROUNDS
+  Less
+  JumpIfFalse done
+  GetLocal x
+  Const UInt 3
+  Add
+  Const UInt 2
+  Mul
+  GetLocal x
+  Sub
+  Const UInt 6
+  Sub
+  SetLocal x
+  Pop
+  GetLocal i
+  Const UInt 1
+  Add
+  SetLocal i
+  Pop
+  Loop again
+done:
+  GetLocal x
+  Return
+";
+
+/// sum = sum + -(i / 7), 18 instructions a round.
+const DIVISIONS: &str = "
+chunk top/0
+  local sum = 0
+  local i = 1
+  PushScope
+  Const Int 0
+  DefineLocal sum
+  Const Int 0
+  DefineLocal i
+again:
+  GetLocal i
+  Const Int ROUNDS
+  Less
+  JumpIfFalse done
+  GetLocal sum
+  GetLocal i
+  Const Int 7
+  Div
+  Negate
+  Add
+  SetLocal sum
+  Pop
+  GetLocal i
+  Const Int 1
+  Add
+  SetLocal i
+  Pop
+  Loop again
+done:
+  GetLocal sum
+  Return
+";
+
+/// sum = sum + Int(Float(i) * 0.5), the end told in Float; 20 instructions a round.
+const CASTS: &str = "
+chunk top/0
+  local sum = 0
+  local i = 1
+  PushScope
+  Const Int 0
+  DefineLocal sum
+  Const Int 0
+  DefineLocal i
+again:
+  GetLocal i
+  Cast Float
+  Const Float ROUNDS.0
+  Less
+  JumpIfFalse done
+  GetLocal sum
+  GetLocal i
+  Cast Float
+  Const Float 0.5
+  Mul
+  Cast Int
+  Add
+  SetLocal sum
+  Pop
+  GetLocal i
+  Const Int 1
+  Add
+  SetLocal i
+  Pop
+  Loop again
+done:
+  GetLocal sum
   Return
 ";
 

@@ -21,7 +21,7 @@ use Rattle.numbers.specs.Arithmetic.{checked}
 use Rattle.numbers.proofs.Signs.{no}
 
 -- by the test, what the difference of two naturals is
-sub-ind : (a b : ℕ) (P : ℤ → Type 0) → (a < b → P (negsuc (b - suc a))) → (b ≤ a → P (pos (a - b))) → P (subℕ a b)
+pub sub-ind : (a b : ℕ) (P : ℤ → Type 0) → (a < b → P (negsuc (b - suc a))) → (b ≤ a → P (pos (a - b))) → P (subℕ a b)
 sub-ind a b P f g = go (ltb a b) (ltb→lt a b) (nltb→le a b)
   where
     go : (t : Bool) → (T t → a < b) → (T (not t) → b ≤ a) → P (cond t (negsuc (b - suc a)) (pos (a - b)))

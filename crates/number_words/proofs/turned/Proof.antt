@@ -1,0 +1,23 @@
+use borrow.Author.Needs.{needs}
+use borrow.Author.Tests.{lt-ltb, le-ltb}
+use native.Mathlib.Omega.{arith}
+use mathlib.Core.Path.{_≡_, sym, ap}
+use mathlib.Core.Bool.{Bool, cond}
+use Prim.Native.Nat.{_+_, _-_}
+use Rattle.number_words.proofs.turned.Statement.{statement}
+use Rattle.number_words.proofs.turned.Tie as tie
+
+sub-others : tie.Need-sub-others
+sub-others c = omega (arith, (c .before .pre .0 .1 .negatives), (c .before .pre .0 .1 .numbers))
+
+add-result : tie.Need-add-result
+add-result c = omega (arith, (c .before .if1 .taken), (c .before .before .before .pre .0 .1 .few))
+
+returns : tie.Need-returns
+returns c = (sym (ap (λ (t : Bool). cond t ((c .before .before .before .args .p) + (c .before .before .before .args .n .negatives)) ((c .before .before .before .args .p) - ((c .before .before .before .args .n .numbers) - (c .before .before .before .args .n .negatives)))) (lt-ltb _ _ (c .before .if1 .taken))), omega (arith, (c .before .if1 .taken)))
+
+returns-2 : tie.Need-returns-2
+returns-2 c = (sym (ap (λ (t : Bool). cond t ((c .before .before .args .p) + (c .before .before .args .n .negatives)) ((c .before .before .args .p) - ((c .before .before .args .n .numbers) - (c .before .before .args .n .negatives)))) (le-ltb _ _ (c .if1 .left))), omega (arith, (c .before .before .pre .1)))
+
+pub turned-spec : {M : Type 1} → statement M
+turned-spec = tie.close (tie.spec sub-others add-result returns returns-2)

@@ -1,0 +1,201 @@
+// Two integers of one kind of at most 32 bits, added, subtracted, multiplied and compared by their words alone: no number is taken apart, and
+// nothing goes through memory. A word is turned so that the kind's numbers stand in their order from 0 up, the least first.
+ghost use mathlib.Core.Path.{_≡_};
+ghost use mathlib.Core.Logic.{_⊎_};
+ghost use Prim.Native.Nat.{_+_, _≤_, _<_};
+ghost use lib.Dec.{ltb};
+ghost use lib.IntN.{_+ℤ_, _-ℤ_, _*ℤ_, pos, subℕ};
+ghost use Rattle.numbers.specs.declared.IntKind.{IntKind};
+ghost use Rattle.numbers.specs.declared.IntKind.the-variants.{U64};
+ghost use Rattle.numbers.specs.Kinds.{intKindCode, wrapping};
+ghost use Rattle.numbers.specs.Arithmetic.{checked};
+ghost use Rattle.numbers.specs.Compare.{integerOrder};
+ghost use Rattle.number_words.specs.Words.{IsOf, turn, signed, answerIn, wideAnswer};
+use numbers::Order;
+
+// How many numbers a kind has, and how many of them are negative.
+pub struct NarrowKind {
+    pub numbers: u64,
+    pub negatives: u64,
+}
+
+// What an operation leaves: the word of the number, or an overflow.
+pub enum WordAnswer {
+    Word(u64),
+    Overflow,
+}
+
+// The kind of a code, if it is an integer's and has at most 32 bits; no numbers otherwise.
+pub fn narrow_kind(code: u64) -> NarrowKind
+    ensures { λ r. ⌜ (r .numbers ≡ 0) ⊎ ((k : IntKind) × (intKindCode k ≡ code) × IsOf k r) ⌝ }
+{
+    match code {
+        3 => NarrowKind {
+            numbers: 0x1_0000_0000,
+            negatives: 0x8000_0000,
+        },
+        4 => NarrowKind {
+            numbers: 0x1_0000_0000,
+            negatives: 0,
+        },
+        10 => NarrowKind {
+            numbers: 0x100,
+            negatives: 0,
+        },
+        11 => NarrowKind {
+            numbers: 0x100,
+            negatives: 0x80,
+        },
+        12 => NarrowKind {
+            numbers: 0x1_0000,
+            negatives: 0,
+        },
+        13 => NarrowKind {
+            numbers: 0x1_0000,
+            negatives: 0x8000,
+        },
+        _ => NarrowKind {
+            numbers: 0,
+            negatives: 0,
+        },
+    }
+}
+
+// A word's place among the kind's numbers, and the word at a place: in both ways the highest bit is turned, where the kind has a sign.
+fn turned(n: NarrowKind, p: u64) -> u64
+    requires { ⌜ ((k : IntKind) × IsOf k n) × (p < n .numbers) ⌝ }
+    ensures { λ r. ⌜ (r ≡ turn n p) × (r < n .numbers) ⌝ }
+{
+    let others = n.numbers - n.negatives;
+    if p < others {
+        p + n.negatives
+    } else {
+        p - others
+    }
+}
+
+pub fn add_words(n: NarrowKind, p: u64, q: u64) -> WordAnswer
+    requires { ⌜ ((k : IntKind) × IsOf k n) × (p < n .numbers) × (q < n .numbers) ⌝ }
+    ensures { λ r. ⌜ ((k : IntKind) → IsOf k n → answerIn k r ≡ checked k (wrapping k (pos p) +ℤ wrapping k (pos q))) ⌝ }
+{
+    let sum = turned(n, p) + turned(n, q);
+    if sum < n.negatives {
+        return WordAnswer::Overflow;
+    }
+    let place = sum - n.negatives;
+    if place < n.numbers {
+        return WordAnswer::Word(turned(n, place));
+    }
+    WordAnswer::Overflow
+}
+
+pub fn sub_words(n: NarrowKind, p: u64, q: u64) -> WordAnswer
+    requires { ⌜ ((k : IntKind) × IsOf k n) × (p < n .numbers) × (q < n .numbers) ⌝ }
+    ensures { λ r. ⌜ ((k : IntKind) → IsOf k n → answerIn k r ≡ checked k (wrapping k (pos p) -ℤ wrapping k (pos q))) ⌝ }
+{
+    let sum = turned(n, p) + n.negatives;
+    let y = turned(n, q);
+    if sum < y {
+        return WordAnswer::Overflow;
+    }
+    let place = sum - y;
+    if place < n.numbers {
+        return WordAnswer::Word(turned(n, place));
+    }
+    WordAnswer::Overflow
+}
+
+// How far a place is from zero's.
+fn magnitude(n: NarrowKind, x: u64) -> u64
+    requires { ⌜ ((k : IntKind) × IsOf k n) × (x < n .numbers) ⌝ }
+    ensures { λ r. ⌜ (subℕ x (n .negatives) ≡ signed (ltb x (n .negatives)) r) × (r ≤ 4294967295) ⌝ }
+{
+    if x < n.negatives {
+        n.negatives - x
+    } else {
+        x - n.negatives
+    }
+}
+
+pub fn mul_words(n: NarrowKind, p: u64, q: u64) -> WordAnswer
+    requires { ⌜ ((k : IntKind) × IsOf k n) × (p < n .numbers) × (q < n .numbers) ⌝ }
+    ensures { λ r. ⌜ ((k : IntKind) → IsOf k n → answerIn k r ≡ checked k (wrapping k (pos p) *ℤ wrapping k (pos q))) ⌝ }
+{
+    let x = turned(n, p);
+    let y = turned(n, q);
+    let product = magnitude(n, x) * magnitude(n, y);
+    let s = x < n.negatives;
+    let t = y < n.negatives;
+    if s == t {
+        if product < n.numbers - n.negatives {
+            return WordAnswer::Word(turned(n, n.negatives + product));
+        }
+        return WordAnswer::Overflow;
+    }
+    if product <= n.negatives {
+        return WordAnswer::Word(turned(n, n.negatives - product));
+    }
+    WordAnswer::Overflow
+}
+
+// Which of two numbers is less.
+pub fn order_words(n: NarrowKind, p: u64, q: u64) -> Order
+    requires { ⌜ ((k : IntKind) × IsOf k n) × (p < n .numbers) × (q < n .numbers) ⌝ }
+    ensures { λ r. ⌜ ((k : IntKind) → IsOf k n → r ≡ integerOrder (wrapping k (pos p)) (wrapping k (pos q))) ⌝ }
+{
+    let x = turned(n, p);
+    let y = turned(n, q);
+    if x < y {
+        Order::Less
+    } else if y < x {
+        Order::Greater
+    } else {
+        Order::Equal
+    }
+}
+
+// The same for two UInts, which need all 64 bits.
+pub fn add_u64(p: u64, q: u64) -> WordAnswer
+    ensures { λ r. ⌜ wideAnswer r ≡ checked U64 (pos p +ℤ pos q) ⌝ }
+{
+    if p <= 0xffff_ffff_ffff_ffff - q {
+        WordAnswer::Word(p + q)
+    } else {
+        WordAnswer::Overflow
+    }
+}
+
+pub fn sub_u64(p: u64, q: u64) -> WordAnswer
+    ensures { λ r. ⌜ wideAnswer r ≡ checked U64 (pos p -ℤ pos q) ⌝ }
+{
+    if q <= p {
+        WordAnswer::Word(p - q)
+    } else {
+        WordAnswer::Overflow
+    }
+}
+
+pub fn mul_u64(p: u64, q: u64) -> WordAnswer
+    ensures { λ r. ⌜ wideAnswer r ≡ checked U64 (pos p *ℤ pos q) ⌝ }
+{
+    if p == 0 {
+        return WordAnswer::Word(0);
+    }
+    if q <= 0xffff_ffff_ffff_ffff / p {
+        WordAnswer::Word(p * q)
+    } else {
+        WordAnswer::Overflow
+    }
+}
+
+pub fn order_u64(p: u64, q: u64) -> Order
+    ensures { λ r. ⌜ r ≡ integerOrder (pos p) (pos q) ⌝ }
+{
+    if p < q {
+        Order::Less
+    } else if q < p {
+        Order::Greater
+    } else {
+        Order::Equal
+    }
+}
