@@ -4,7 +4,7 @@ ghost use Prim.Native.Nat.{_%_, _^_};
 ghost use lib.IntN.{ℤ};
 ghost use lib.Ieee as Ieee;
 ghost use lib.Ieee.{binary64};
-ghost use Rattle.numbers.specs.Kinds.{inRange, lowBits};
+ghost use Rattle.numbers.specs.Kinds.{inRange, lowBits, twosComplement};
 ghost use Rattle.numbers.specs.Scalars.{valueOf};
 ghost use Rattle.numbers.specs.Casts.{wholePartOf, castInteger, castTo, castOf};
 use numbers::CastTarget;
@@ -139,6 +139,49 @@ fn cast_from_float(target: CastTarget, x: f64) -> NumberAnswer
             NumberAnswer::Value(Number::SFloat(float_bits::nearest_f64_to_f32(x)))
         }
     }
+}
+
+// The f64 nearest to an Int.
+fn nearest_to_int(x: i64) -> f64
+    ensures { λ r. ⌜ r ≡ Ieee.ofInt binary64 x ⌝ }
+{
+    if x >= 0 {
+        std::num::nearest_u64_to_f64(x as u64)
+    } else {
+        -std::num::nearest_u64_to_f64(((-1 - x) as u64) + 1)
+    }
+}
+
+// The low 64 bits of a float made whole.
+fn low_word(x: f64) -> u64
+    ensures { λ r. ⌜ r ≡ lowBits 64 (Ieee.toSigned 127 x) ⌝ }
+{
+    let b = float_bits::word_of_f64(x);
+    let s = 0x8000_0000_0000_0000 <= b;
+    match whole_part(b) {
+        WholePart::Below64(q) => word_of(SignMagnitude {
+            negative: s,
+            magnitude: q,
+        }),
+        WholePart::Below127(q) => word_of(SignMagnitude {
+            negative: s,
+            magnitude: q,
+        }),
+        WholePart::Beyond => if s { 0 } else { 0xffff_ffff_ffff_ffff },
+    }
+}
+
+// The casts that a sheet makes most, by their words: an Int to Float, and a Float to Int.
+pub fn int_to_float_word(p: u64) -> u64
+    ensures { λ r. ⌜ Ieee.ofBits binary64 r ≡ Ieee.ofInt binary64 (twosComplement 63 p) ⌝ }
+{
+    float_bits::word_of_f64(nearest_to_int(numbers::i64_of_word(p)))
+}
+
+pub fn float_to_int_word(p: u64) -> u64
+    ensures { λ r. ⌜ r ≡ lowBits 64 (Ieee.toSigned 127 (Ieee.ofBits binary64 p)) ⌝ }
+{
+    low_word(float_bits::f64_of_word(p))
 }
 
 pub fn cast(target: CastTarget, a: Number) -> NumberAnswer

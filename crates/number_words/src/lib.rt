@@ -1,9 +1,12 @@
-// Two integers of one kind of at most 32 bits, added, subtracted, multiplied and compared by their words alone: no number is taken apart, and
-// nothing goes through memory. A word is turned so that the kind's numbers stand in their order from 0 up, the least first.
+// Two numbers of one kind, added, subtracted, multiplied, divided if floats and compared if integers, by their words alone: no number is taken apart,
+// and nothing goes through memory. First the integers of at most 32 bits: a word is turned so that the kind's numbers stand in their order from 0
+// up, the least first. Then UInt, Float and SFloat. Two Ints have their own way (`number_arithmetic`).
 ghost use mathlib.Core.Path.{_≡_};
 ghost use mathlib.Core.Logic.{_⊎_};
 ghost use Prim.Native.Nat.{_+_, _≤_, _<_};
 ghost use lib.Dec.{ltb};
+ghost use lib.Ieee as Ieee;
+ghost use lib.Ieee.{binary32, binary64};
 ghost use lib.IntN.{_+ℤ_, _-ℤ_, _*ℤ_, pos, subℕ};
 ghost use Rattle.numbers.specs.declared.IntKind.{IntKind};
 ghost use Rattle.numbers.specs.declared.IntKind.the-variants.{U64};
@@ -198,4 +201,53 @@ pub fn order_u64(p: u64, q: u64) -> Order
     } else {
         Order::Equal
     }
+}
+
+// Two Floats or two SFloats by their words: one operation of IEEE 754 each.
+pub fn add_f64(p: u64, q: u64) -> u64
+    ensures { λ r. ⌜ Ieee.ofBits binary64 r ≡ Ieee.add binary64 (Ieee.ofBits binary64 p) (Ieee.ofBits binary64 q) ⌝ }
+{
+    float_bits::word_of_f64(float_bits::f64_of_word(p) + float_bits::f64_of_word(q))
+}
+
+pub fn sub_f64(p: u64, q: u64) -> u64
+    ensures { λ r. ⌜ Ieee.ofBits binary64 r ≡ Ieee.sub binary64 (Ieee.ofBits binary64 p) (Ieee.ofBits binary64 q) ⌝ }
+{
+    float_bits::word_of_f64(float_bits::f64_of_word(p) - float_bits::f64_of_word(q))
+}
+
+pub fn mul_f64(p: u64, q: u64) -> u64
+    ensures { λ r. ⌜ Ieee.ofBits binary64 r ≡ Ieee.mul binary64 (Ieee.ofBits binary64 p) (Ieee.ofBits binary64 q) ⌝ }
+{
+    float_bits::word_of_f64(float_bits::f64_of_word(p) * float_bits::f64_of_word(q))
+}
+
+pub fn div_f64(p: u64, q: u64) -> u64
+    ensures { λ r. ⌜ Ieee.ofBits binary64 r ≡ Ieee.div binary64 (Ieee.ofBits binary64 p) (Ieee.ofBits binary64 q) ⌝ }
+{
+    float_bits::word_of_f64(float_bits::f64_of_word(p) / float_bits::f64_of_word(q))
+}
+
+pub fn add_f32(p: u32, q: u32) -> u32
+    ensures { λ r. ⌜ Ieee.ofBits binary32 r ≡ Ieee.add binary32 (Ieee.ofBits binary32 p) (Ieee.ofBits binary32 q) ⌝ }
+{
+    float_bits::word_of_f32(float_bits::f32_of_word(p) + float_bits::f32_of_word(q))
+}
+
+pub fn sub_f32(p: u32, q: u32) -> u32
+    ensures { λ r. ⌜ Ieee.ofBits binary32 r ≡ Ieee.sub binary32 (Ieee.ofBits binary32 p) (Ieee.ofBits binary32 q) ⌝ }
+{
+    float_bits::word_of_f32(float_bits::f32_of_word(p) - float_bits::f32_of_word(q))
+}
+
+pub fn mul_f32(p: u32, q: u32) -> u32
+    ensures { λ r. ⌜ Ieee.ofBits binary32 r ≡ Ieee.mul binary32 (Ieee.ofBits binary32 p) (Ieee.ofBits binary32 q) ⌝ }
+{
+    float_bits::word_of_f32(float_bits::f32_of_word(p) * float_bits::f32_of_word(q))
+}
+
+pub fn div_f32(p: u32, q: u32) -> u32
+    ensures { λ r. ⌜ Ieee.ofBits binary32 r ≡ Ieee.div binary32 (Ieee.ofBits binary32 p) (Ieee.ofBits binary32 q) ⌝ }
+{
+    float_bits::word_of_f32(float_bits::f32_of_word(p) / float_bits::f32_of_word(q))
 }

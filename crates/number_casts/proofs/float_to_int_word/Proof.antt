@@ -1,0 +1,18 @@
+use borrow.Author.Needs.{needs}
+use mathlib.Core.Path.{_≡_, ap, _∙_}
+use lib.Ieee.{Float, toSigned}
+use Rattle.numbers.specs.Kinds.{lowBits}
+use Rattle.number_casts.proofs.float_to_int_word.Statement.{statement}
+use Rattle.number_casts.proofs.float_to_int_word.Tie as tie
+
+f64-of-word-requires : tie.Need-f64-of-word-requires
+f64-of-word-requires c κs = search needs
+
+low-word-requires : tie.Need-low-word-requires
+low-word-requires c κs = search needs
+
+returns : tie.Need-returns
+returns c = (c .low-word .ensures) ∙ ap (λ (x : Float). lowBits 64 (toSigned 127 x)) (c .before .f64-of-word .ensures)
+
+pub float-to-int-word-spec : {M : Type 1} → statement M
+float-to-int-word-spec = tie.close (tie.spec f64-of-word-requires low-word-requires returns)
