@@ -1,16 +1,21 @@
 //! The images: loops of so many rounds, written in assembler text (tests/asm/README.md).
 
-/// A program: what it is heavy in, its text with `ROUNDS` for the rounds, and how many there are.
+/// A program: what it is heavy in, its text with `ROUNDS` for the rounds and `KIND` for a kind of numbers, that kind, and how many
+/// rounds there are.
 pub struct Program {
     pub name: &'static str,
     text: &'static str,
+    kind: &'static str,
     rounds: u64,
 }
 
 impl Program {
     /// The image lines.
     pub fn image(&self) -> Vec<u8> {
-        let text = self.text.replace("ROUNDS", &self.rounds.to_string());
+        let text = self
+            .text
+            .replace("ROUNDS", &self.rounds.to_string())
+            .replace("KIND", self.kind);
         match asm::assemble(&text) {
             Ok(image) => image.lines().into_bytes(),
             Err(error) => panic!("{}: {error}", self.name),
@@ -22,51 +27,61 @@ pub const PROGRAMS: [Program; 10] = [
     Program {
         name: "Int arithmetic",
         text: INTEGERS,
+        kind: "Int",
         rounds: 530_000,
     },
     Program {
         name: "Float arithmetic",
         text: FLOATS,
+        kind: "Float",
         rounds: 590_000,
     },
     Program {
         name: "SFloat arithmetic",
-        text: SMALL_FLOATS,
+        text: FLOATS,
+        kind: "SFloat",
         rounds: 590_000,
     },
     Program {
         name: "SInt arithmetic",
         text: SMALL_INTEGERS,
+        kind: "SInt",
         rounds: 470_000,
     },
     Program {
         name: "UInt arithmetic",
-        text: WORDS,
+        text: SMALL_INTEGERS,
+        kind: "UInt",
         rounds: 470_000,
     },
     Program {
         name: "Int Div, Negate",
         text: DIVISIONS,
+        kind: "Int",
         rounds: 560_000,
     },
     Program {
         name: "Cast, Float Less",
         text: CASTS,
+        kind: "Int",
         rounds: 500_000,
     },
     Program {
         name: "calls",
         text: CALLS,
+        kind: "Int",
         rounds: 400_000,
     },
     Program {
         name: "closures and Propagate",
         text: CLOSURES,
+        kind: "Int",
         rounds: 450_000,
     },
     Program {
         name: "arrays",
         text: ARRAYS,
+        kind: "Int",
         rounds: 400_000,
     },
 ];
@@ -112,7 +127,7 @@ chunk top/0
   local x = 0
   local i = 1
   PushScope
-  Const Float 0.0
+  Const KIND 0.0
   DefineLocal x
   Const Int 0
   DefineLocal i
@@ -122,9 +137,9 @@ again:
   Less
   JumpIfFalse done
   GetLocal x
-  Const Float 0.5
+  Const KIND 0.5
   Mul
-  Const Float 1.25
+  Const KIND 1.25
   Add
   SetLocal x
   Pop
@@ -139,104 +154,34 @@ done:
   Return
 ";
 
-/// The same in SFloat.
-const SMALL_FLOATS: &str = "
-chunk top/0
-  local x = 0
-  local i = 1
-  PushScope
-  Const SFloat 0.0
-  DefineLocal x
-  Const Int 0
-  DefineLocal i
-again:
-  GetLocal i
-  Const Int ROUNDS
-  Less
-  JumpIfFalse done
-  GetLocal x
-  Const SFloat 0.5
-  Mul
-  Const SFloat 1.25
-  Add
-  SetLocal x
-  Pop
-  GetLocal i
-  Const Int 1
-  Add
-  SetLocal i
-  Pop
-  Loop again
-done:
-  GetLocal x
-  Return
-";
-
-/// x = (x + 3) * 2 - x - 6, all in SInt, the count too; 21 instructions a round.
+/// x = (x + 3) * 2 - x - 6, the count in the same kind; 21 instructions a round.
 const SMALL_INTEGERS: &str = "
 chunk top/0
   local x = 0
   local i = 1
   PushScope
-  Const SInt 5
+  Const KIND 5
   DefineLocal x
-  Const SInt 0
+  Const KIND 0
   DefineLocal i
 again:
   GetLocal i
-  Const SInt ROUNDS
+  Const KIND ROUNDS
   Less
   JumpIfFalse done
   GetLocal x
-  Const SInt 3
+  Const KIND 3
   Add
-  Const SInt 2
+  Const KIND 2
   Mul
   GetLocal x
   Sub
-  Const SInt 6
+  Const KIND 6
   Sub
   SetLocal x
   Pop
   GetLocal i
-  Const SInt 1
-  Add
-  SetLocal i
-  Pop
-  Loop again
-done:
-  GetLocal x
-  Return
-";
-
-/// The same in UInt.
-const WORDS: &str = "
-chunk top/0
-  local x = 0
-  local i = 1
-  PushScope
-  Const UInt 5
-  DefineLocal x
-  Const UInt 0
-  DefineLocal i
-again:
-  GetLocal i
-  Const UInt ROUNDS
-  Less
-  JumpIfFalse done
-  GetLocal x
-  Const UInt 3
-  Add
-  Const UInt 2
-  Mul
-  GetLocal x
-  Sub
-  Const UInt 6
-  Sub
-  SetLocal x
-  Pop
-  GetLocal i
-  Const UInt 1
+  Const KIND 1
   Add
   SetLocal i
   Pop
