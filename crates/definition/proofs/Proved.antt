@@ -4,8 +4,10 @@ use Rattle.definition.specs.Proved.{Proved}
 use Rattle.definition.proofs.Protected.{begins, demand3, passed-protected}
 use Rattle.definition.proofs.Frames.{runs, changes, call-returns, table-right}
 use Rattle.definition.proofs.TableOfSteps.{table-of-steps}
+use Rattle.definition.proofs.FaultsOfSteps.{faults-of-steps}
 use Rattle.definition.proofs.OneRun.{one-run, one-reply}
 use Rattle.definition.proofs.Spent.{counts}
+use Rattle.definition.proofs.CountsOfSteps.{counts-of-steps}
 use Rattle.definition.proofs.OneAnswer.{settled, bytes-settled}
 use Rattle.definition.proofs.Equality.{equal-decided}
 use Rattle.definition.proofs.Keeps.{loads-kept}
@@ -21,8 +23,10 @@ proved = record {
   oneRun = one-run trees;
   oneReply = one-reply trees;
   counts = counts trees;
+  countsOfSteps = counts-of-steps trees;
   tableRight = table-right trees;
   tableOfSteps = table-of-steps trees;
+  faultsOfSteps = faults-of-steps trees;
   changes = changes trees;
   returns = call-returns trees;
   settled = settled;
