@@ -4,17 +4,17 @@ use mathlib.Core.Logic.{_≢_}
 use mathlib.Core.List.{List, [], _∷_}
 use mathlib.Core.Option.{Option, none, some}
 use mathlib.Core.Bool.{Bool, true, false}
-use Prim.Native.Nat.{ℕ, zero, suc, _≤_, _<_}
+use Prim.Native.Nat.{ℕ, suc, _≤_, _<_}
 use native.Mathlib.Omega.{arith}
 use lib.Dec.{ltb}
 use borrow.Author.Tests.{lt-ltb, le-ltb}
 use lib.ListN.{length}
 use Rattle.definition.specs.Image.{Image, chunkAt}
-use Rattle.definition.specs.Decode.{Instr, decode}
+use Rattle.definition.specs.Decode.{Instr}
 use Rattle.definition.specs.Shape.{Alg}
 use Rattle.definition.specs.State.{Frame, State, value, stop, Outcome, next, done, Act, goOn, fault, enter, leave}
-use Rattle.definition.specs.Step.{perform, fits, bounded, left, finishCall, carry, begin, budgeted, within, stepIn, step}
-use Rattle.definition.specs.Claims.{countOf, CountRight, CountsOfSteps}
+use Rattle.definition.specs.Step.{bounded, finishCall, carry, begin, budgeted, within, stepIn, step}
+use Rattle.definition.specs.Claims.{countOf, CountsOfSteps}
 use Rattle.definition.proofs.Frames.{Form, form}
 
 module _ {Val Cells : Type 0} (A : Alg Val Cells) (im : Image) (budget : ℕ) (s : State Val Cells) (f : Frame) (fs : List Frame) where

@@ -3,11 +3,11 @@ use mathlib.Core.Path.{_≡_, refl, sym, _∙_, ap, subst}
 use mathlib.Core.Logic.{_⊎_, inl, inr}
 use mathlib.Core.List.{List, [], _∷_}
 use mathlib.Core.Option.{Option, none, some}
-use mathlib.Core.Bool.{Bool, true, false, not, _&&_}
-use Prim.Native.Nat.{ℕ, zero, suc, _+_, _-_, _≤_, _<_}
+use mathlib.Core.Bool.{Bool, true, false}
+use Prim.Native.Nat.{ℕ, suc, _≤_, _<_}
 use native.Mathlib.Omega.{arith}
-use lib.Dec.{T, leb, ltb, leb→le, nleb→lt}
-use borrow.Author.Tests.{lt-ltb}
+use lib.Dec.{leb}
+use borrow.Author.Tests.{lt-ltb, leb-false}
 use lib.ListN.{length, take, drop}
 use Rattle.definition.specs.Table.{OpCode, Const, Add, Sub, Mul, Div, Negate, Not, Eq, NotEq, Less, LessEq, Greater, GreaterEq, GetLocal, SetLocal, GetGlobal, SetGlobal, DefineLocal, Pop, Return, PushScope, PopScope, Jump, JumpIfFalse, Loop, Call, Ok, Err, Propagate, Error, BuildArr, BuildTuple, Index, ArrLen, ArrSet, BuildClosure, Cast, IsKind, row, need}
 use Rattle.definition.specs.Image.{Image, chunkAt}
@@ -15,11 +15,11 @@ use Rattle.definition.specs.Decode.{Instr, decode, isSome, unless, fault
 use Rattle.definition.specs.Shape.{Alg, Callee, Wrapper, anOk, anErr, noWrapper}
 use Rattle.definition.specs.Operation.{Answer, got, new, bad, OperationFault, overflow, zeroDivisor, wrongKind, unordered, outside, badCast, faultNumber}
 use Rattle.definition.specs.State.{Frame, State, value, stop, Outcome, next, done, Act, goOn, fault, enter, leave}
-use Rattle.definition.specs.Step.{taking, orFault, ifElse, answer, define, popScope, branch, call, propagate, capture, perform, fits, bounded, finishCall, carry, begin, budgeted, within, stepIn, step}
-use Rattle.definition.specs.Claims.{AtOffset, Enough, StopsAs, FaultRight, FaultsOfSteps}
+use Rattle.definition.specs.Step.{taking, orFault, ifElse, answer, define, popScope, branch, call, propagate, capture, perform, bounded, finishCall, carry, begin, budgeted, within, stepIn, step}
+use Rattle.definition.specs.Claims.{AtOffset, Enough, StopsAs, FaultsOfSteps}
 
 -- the check's fault m and the number n of a stop, where operands are enough (E), or not
-abbrev Same : Type 0 → ℕ → ℕ → Type 0
+abbrev pub Same : Type 0 → ℕ → ℕ → Type 0
 Same E m n = (n ≡ 30 → m ≡ 10) × (n ≡ 32 → m ≡ 12) × (n ≡ 33 → m ≡ 11) × (E → (m ≡ 10 → n ≡ 30) × (m ≡ 12 → n ≡ 32) × (m ≡ 11 → n ≡ 33))
 
 none-of : (E : Type 0) (m n : ℕ) → m ≡ 0 → 40 < n → Same E m n
@@ -34,12 +34,12 @@ begins A im budget s f fs w =
     ∙ rw (lt-ltb (f .position) (length (chunkAt im (f .chunk) .code)) (w .before), lt-ltb (s .count) budget (w .paid)) refl
 
 module _ {Val Cells : Type 0} (A : Alg Val Cells) (s : State Val Cells) where
-  abbrev k : ℕ
+  abbrev pub k : ℕ
   k = length (s .operands)
 
   module _ (a : ℕ) where
     -- the act of o, where the check's fault is m
-    abbrev Agrees : OpCode → ℕ → Act Val Cells → Type 0
+    abbrev pub Agrees : OpCode → ℕ → Act Val Cells → Type 0
     Agrees o m (goOn vs r q ls st gs cs) = m ≡ 0
     Agrees o m (fault n) = Same (need o a ≤ k) m n
     Agrees o m (enter c own r q) = m ≡ 0
@@ -59,7 +59,7 @@ module _ {Val Cells : Type 0} (A : Alg Val Cells) (s : State Val Cells) where
       where
         go : (b : Bool) → leb n k ≡ b → Agrees o m (ifElse b (c (take n (s .operands)) (drop n (s .operands))) (fault 31))
         go true t = h
-        go false t = let x : k < n = nleb→lt n k (subst (λ (y : Bool). T (not y)) (sym t) tt) in omega arith
+        go false t = omega (arith, leb-false n k t)
 
     either : (o : OpCode) (m : ℕ) (b : Bool) (x y : Act Val Cells) → Agrees o m x → Agrees o m y → Agrees o m (ifElse b x y)
     unfolding ifElse
@@ -124,7 +124,7 @@ module _ {Val Cells : Type 0} (A : Alg Val Cells) (s : State Val Cells) where
 
   module _ (im : Image) (f : Frame) (i : Instr) where
     -- the check's fault of the instruction i, were it o
-    abbrev seen : OpCode → ℕ
+    abbrev pub seen : OpCode → ℕ
     seen o = faultOf (row o .static) (chunkAt im (f .chunk) .constants) (f .position) i
 
     takes′ : (o : OpCode) (n m : ℕ) (c : List Val → List Val → Act Val Cells) → n ≡ need o (i .a) → Agrees (i .a) o m (c (take n (s .operands)) (drop n (s .operands))) → Agrees (i .a) o m (taking n s c)
@@ -133,7 +133,7 @@ module _ {Val Cells : Type 0} (A : Alg Val Cells) (s : State Val Cells) where
     leaf′ : (o : OpCode) (r : List Val) (q : ℕ) (x : Answer Val) → Agrees (i .a) o 0 (answer A s r q x)
     leaf′ = answers (i .a)
 
-    agrees : (o : OpCode) → Agrees (i .a) o (seen o) (perform A im s f i o)
+    pub agrees : (o : OpCode) → Agrees (i .a) o (seen o) (perform A im s f i o)
     unfolding perform
     agrees Const = found (i .a) Const 12 32 _ _ (omega arith) (λ v. refl)
     agrees Add = takes′ Add 2 0 _ refl (leaf′ Add _ _ _)

@@ -1,14 +1,16 @@
--- The worked images first: they compute the whole definition. Then, in order: the faults of steps; demand 3; the other claims; equality; the
--- simulation of one algebra by another; the format; the laws for proofs of code, and the table of whole steps by them
+-- The worked images first: they compute the whole definition. Then, in order: what every step does, of every image; demand 3; the other
+-- claims; equality; the simulation of one algebra by another; the format; the laws for proofs of code, and the table of whole steps by them
 pub mod Answers
+pub mod Frames
 pub mod FaultsOfSteps
+pub mod CountsOfSteps
+pub mod OwnLocals
+pub mod LowerSlots
 pub mod Instructions
 pub mod Invariant
 pub mod Protected
-pub mod Frames
 pub mod OneRun
 pub mod Spent
-pub mod CountsOfSteps
 pub mod OneAnswer
 pub mod TestedHeights
 pub mod Witnesses

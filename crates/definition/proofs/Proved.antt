@@ -5,6 +5,7 @@ use Rattle.definition.proofs.Protected.{begins, demand3, passed-protect
 use Rattle.definition.proofs.Frames.{runs, changes, call-returns, table-right}
 use Rattle.definition.proofs.TableOfSteps.{table-of-steps}
 use Rattle.definition.proofs.FaultsOfSteps.{faults-of-steps}
+use Rattle.definition.proofs.LowerSlots.{lower-slots}
 use Rattle.definition.proofs.OneRun.{one-run, one-reply}
 use Rattle.definition.proofs.Spent.{counts}
 use Rattle.definition.proofs.CountsOfSteps.{counts-of-steps}
@@ -27,6 +28,7 @@ proved = record {
   tableRight = table-right trees;
   tableOfSteps = table-of-steps trees;
   faultsOfSteps = faults-of-steps trees;
+  lowerSlots = lower-slots trees;
   changes = changes trees;
   returns = call-returns trees;
   settled = settled;

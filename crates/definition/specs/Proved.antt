@@ -7,7 +7,7 @@ use Rattle.definition.specs.Answers.{BytesSettled, PassedProtected}
 use Rattle.definition.specs.Examples.{ExamplesRight}
 use Rattle.definition.specs.Witnesses.{Witnessed}
 use Rattle.definition.specs.Callers.{Demand3}
-use Rattle.definition.specs.Claims.{Begins, Runs, OneRun, OneReply, Counts, CountsOfSteps, TableRight, TableOfSteps, FaultsOfSteps, Changes, Returns}
+use Rattle.definition.specs.Claims.{Begins, Runs, OneRun, OneReply, Counts, CountsOfSteps, TableRight, TableOfSteps, FaultsOfSteps, Changes, Returns, LowerSlots}
 
 pub record Proved : Type 0 where
   -- a called function never costs its caller anything
@@ -26,6 +26,8 @@ pub record Proved : Type 0 where
   pub tableOfSteps : TableOfSteps trees
   -- what the check calls 10, 12 or 11 is what a step stops with
   pub faultsOfSteps : FaultsOfSteps trees
+  -- no step changes a slot below its frame's base
+  pub lowerSlots : LowerSlots trees
   -- frames go on only by a Call, and off only by a Return, a Propagate of an Err or the code's end
   pub changes : Changes trees
   pub returns : Returns trees
