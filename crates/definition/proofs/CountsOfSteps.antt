@@ -72,7 +72,7 @@ module _ {Val Cells : Type 0} (A : Alg Val Cells) (im : Image) (budget : ℕ) (s
 
   ends : Ended (within A false im budget s f fs)
   unfolding within
-  ends = finish-ended _ _ fs (A .null) refl
+  ends = finish-ended _ _ fs (A .null) (omega arith)
 
   count-stays : (x : Outcome Val Cells) → Ended x → countOf A x ≡ s .count
   count-stays (next t) h = h

@@ -11,7 +11,8 @@ use borrow.Author.Tests.{lt-ltb, leb-false}
 use lib.ListN.{length, take, drop}
 use Rattle.definition.specs.Table.{OpCode, Const, Add, Sub, Mul, Div, Negate, Not, Eq, NotEq, Less, LessEq, Greater, GreaterEq, GetLocal, SetLocal, GetGlobal, SetGlobal, DefineLocal, Pop, Return, PushScope, PopScope, Jump, JumpIfFalse, Loop, Call, Ok, Err, Propagate, Error, BuildArr, BuildTuple, Index, ArrLen, ArrSet, BuildClosure, Cast, IsKind, row, need}
 use Rattle.definition.specs.Image.{Image, chunkAt}
-use Rattle.definition.specs.Decode.{Instr, decode, isSome, unless, faultOf, faultIn, fault as faultAt}
+use Rattle.definition.specs.Constants.{constantAt, functionAt}
+use Rattle.definition.specs.Decode.{Instr, decode, targetAt, isSome, unless, faultOf, faultIn, fault as faultAt}
 use Rattle.definition.specs.Shape.{Alg, Callee, Wrapper, anOk, anErr, noWrapper}
 use Rattle.definition.specs.Operation.{Answer, got, new, bad, OperationFault, overflow, zeroDivisor, wrongKind, unordered, outside, badCast, faultNumber}
 use Rattle.definition.specs.State.{Frame, State, value, stop, Outcome, next, done, Act, goOn, fault, enter, leave}
@@ -71,16 +72,24 @@ module _ {Val Cells : Type 0} (A : Alg Val Cells) (s : State Val Cells) where
     option o m n none c g h = g
     option o m n (some v) c g h = h v
 
-    -- a test that the check makes too
-    tested : (o : OpCode) (m : ℕ) (b : Bool) (x y : Act Val Cells) → Agrees o 0 x → Agrees o m y → Agrees o (unless b m) (ifElse b x y)
+    -- a test b of the step that the check makes too, as c
+    tested : (o : OpCode) (m : ℕ) (b c : Bool) (x y : Act Val Cells) → b ≡ c → Agrees o 0 x → Agrees o m y → Agrees o (unless c m) (ifElse b x y)
     unfolding ifElse
-    tested o m true x y g h = g
-    tested o m false x y g h = h
+    tested o m b c x y e g h = subst (λ (d : Bool). Agrees o (unless d m) (ifElse b x y)) e (go b)
+      where
+        go : (d : Bool) → Agrees o (unless d m) (ifElse d x y)
+        go true = g
+        go false = h
 
-    found : {B : Type 0} (o : OpCode) (m n : ℕ) (x : Option B) (c : B → Act Val Cells) → Agrees o m (fault n) → ((v : B) → Agrees o 0 (c v)) → Agrees o (unless (isSome x) m) (orFault n x c)
+    -- what the step looks up, x, and the check too, as y
+    found : {B : Type 0} (o : OpCode) (m n : ℕ) (x y : Option B) (c : B → Act Val Cells) → x ≡ y → Agrees o m (fault n) → ((v : B) → Agrees o 0 (c v))
+        → Agrees o (unless (isSome y) m) (orFault n x c)
     unfolding orFault
-    found o m n none c g h = g
-    found o m n (some v) c g h = h v
+    found {B} o m n x y c e g h = subst (λ (z : Option B). Agrees o (unless (isSome z) m) (orFault n x c)) e (go x)
+      where
+        go : (z : Option B) → Agrees o (unless (isSome z) m) (orFault n z c)
+        go none = g
+        go (some v) = h v
 
     answers : (o : OpCode) (r : List Val) (q : ℕ) (x : Answer Val) → Agrees o 0 (answer A s r q x)
     unfolding answer
@@ -135,7 +144,7 @@ module _ {Val Cells : Type 0} (A : Alg Val Cells) (s : State Val Cells) where
 
     pub agrees : (o : OpCode) → Agrees (i .a) o (seen o) (perform A im s f i o)
     unfolding perform
-    agrees Const = found (i .a) Const 12 32 _ _ (omega arith) (λ v. refl)
+    agrees Const = found (i .a) Const 12 32 _ (constantAt (chunkAt im (f .chunk) .constants) (i .a)) _ refl (omega arith) (λ v. refl)
     agrees Add = takes′ Add 2 0 _ refl (leaf′ Add _ _ _)
     agrees Sub = takes′ Sub 2 0 _ refl (leaf′ Sub _ _ _)
     agrees Mul = takes′ Mul 2 0 _ refl (leaf′ Mul _ _ _)
@@ -159,7 +168,7 @@ module _ {Val Cells : Type 0} (A : Alg Val Cells) (s : State Val Cells) where
     agrees PopScope = pops (i .a) _ _ _
     agrees Jump = refl
     agrees JumpIfFalse = takes′ JumpIfFalse 1 0 _ refl (branches (i .a) _ _ _ _)
-    agrees Loop = tested (i .a) Loop 11 _ _ _ refl (omega arith)
+    agrees Loop = tested (i .a) Loop 11 _ _ _ _ (ap (leb (i .a)) (omega arith)) refl (omega arith)
     agrees Call = takes′ Call (suc (i .a)) 0 _ refl (calls (i .a) _ _ im _ _ _ _)
     agrees Ok = takes′ Ok 1 0 _ refl refl
     agrees Err = takes′ Err 1 0 _ refl refl
@@ -170,9 +179,9 @@ module _ {Val Cells : Type 0} (A : Alg Val Cells) (s : State Val Cells) where
     agrees Index = takes′ Index 2 0 _ refl (leaf′ Index _ _ _)
     agrees ArrLen = takes′ ArrLen 1 0 _ refl (leaf′ ArrLen _ _ _)
     agrees ArrSet = takes′ ArrSet 3 0 _ refl (leaf′ ArrSet _ _ _)
-    agrees BuildClosure = found (i .a) BuildClosure 12 32 _ _ (omega arith) (λ c. captures (i .a) _ _ f c _ _)
-    agrees Cast = takes′ Cast 1 _ _ refl (found (i .a) Cast 10 30 _ _ (omega arith) (λ t. leaf′ Cast _ _ _))
-    agrees IsKind = takes′ IsKind 1 _ _ refl (tested (i .a) IsKind 12 _ _ _ refl (omega arith))
+    agrees BuildClosure = found (i .a) BuildClosure 12 32 _ (functionAt (chunkAt im (f .chunk) .constants) (i .a)) _ refl (omega arith) (λ c. captures (i .a) _ _ f c _ _)
+    agrees Cast = takes′ Cast 1 _ _ refl (found (i .a) Cast 10 30 _ (targetAt (i .a)) _ (ap targetAt (omega arith)) (omega arith) (λ t. leaf′ Cast _ _ _))
+    agrees IsKind = takes′ IsKind 1 _ _ refl (tested (i .a) IsKind 12 _ _ _ _ refl refl (omega arith))
 
   module _ (f : Frame) where
     -- the stop of this instruction with n

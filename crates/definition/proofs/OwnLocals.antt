@@ -189,7 +189,7 @@ module _ {Val Cells : Type 0} (A : Alg Val Cells) (im : Image) (s : State Val Ce
   owns Pop = takes′ Pop 1 _ (stay Pop refl)
   owns Return = tt
   owns PushScope = opens A s f lb st₀ z w
-  owns PopScope = closes A s f lb st₀ z w _ _ (w .bottom)
+  owns PopScope = closes A s f lb st₀ z w _ _ (omega (arith, w .bottom))
   owns Jump = stay Jump refl
   owns JumpIfFalse = takes′ JumpIfFalse 1 _ (branches A s f lb st₀ z w _ _ _ _)
   owns Loop = either A s f lb st₀ z w Loop _ _ _ (stay Loop refl) (less A s f lb st₀ z w Loop 33 (omega arith))
