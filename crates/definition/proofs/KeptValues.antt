@@ -10,7 +10,6 @@ use lib.Dec.{leb, ltb, eqb}
 use lib.IntN.{ℤ, pos, negsuc}
 use lib.ListN.{length, getD, getElem?, take, drop, set, replicate, length-take, length-drop, length-set, length-reverse}
 use Rattle.numbers.specs.declared.Number.{Number}
-use Rattle.numbers.specs.declared.Number.the-variants.{Int}
 use Rattle.numbers.specs.declared.CastTarget.{CastTarget}
 use Rattle.numbers.specs.declared.NumberAnswer.{NumberAnswer}
 use Rattle.numbers.specs.declared.NumberAnswer.the-variants.{Value as Number-is, Overflow, ZeroDivisor, WrongKind, InvalidCast}
@@ -222,12 +221,16 @@ module _ (test : Head → Bool) where
   unfolding index
   index-kept x w h = indexed-kept (sequenceOf (x .head)) (w .parts) (indexIn (numberOf h))
 
-  length-kept : ((n : ℕ) → n ≤ 1024 → test (num (Int (pos n))) ≡ true) → (s : Sequence) (xs : List Value) → length xs ≤ 1024 → AnswerKept (lengthOf s xs)
-  length-kept k anArr xs l = made (scalar-fine _ (k (length xs) l))
+  abbrev Lengths : Type 0
+  Lengths = (vs : List Value) (x : Number) → length vs ≤ 1024 → arrLen (shape arr vs) ≡ new (scalar (num x)) → test (num x) ≡ true
+
+  length-kept : Lengths → (s : Sequence) (xs : List Value) → length xs ≤ 1024 → AnswerKept (lengthOf s xs)
+  unfolding arrLen
+  length-kept k anArr xs l = made (scalar-fine _ (k xs _ l refl))
   length-kept k aTuple xs l = refused
   length-kept k noSequence xs l = refused
 
-  arrLen-kept : ((n : ℕ) → n ≤ 1024 → test (num (Int (pos n))) ≡ true) → (x : Shape Value) → Fine x → AnswerKept (arrLen x)
+  arrLen-kept : Lengths → (x : Shape Value) → Fine x → AnswerKept (arrLen x)
   unfolding arrLen
   arrLen-kept k x w = length-kept k (sequenceOf (x .head)) (x .parts) (w .few)
 

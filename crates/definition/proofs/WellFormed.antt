@@ -7,7 +7,7 @@ use Prim.Native.Nat.{ℕ, zero, suc, _+_, _-_, _*_, _%_, _^_, _≤_, _<_}
 use native.Mathlib.Omega.{arith}
 use native.Mathlib.Nat.{mod-lt, pow-suc, not-suc-le-zero}
 use borrow.Author.Tests.{ltb-true, ltb-false, leb-true, eqb-true, lt-ltb, le-leb}
-use lib.Dec.{T, leb, ltb, eqb}
+use lib.Dec.{T, leb, ltb, eqb, lit≤}
 use lib.IntN.{ℤ, pos, negsuc, negℤ, natAbs}
 use lib.Signed.{quotZ}
 use lib.Pow.{pow-pos}
@@ -34,7 +34,11 @@ use Rattle.numbers.specs.Casts.{truncated, asFloat, castInteger, castTo, castab
 use Rattle.definition.specs.Image.{Constant, Chunk, noChunk, Image, chunkAt}
 use Rattle.definition.specs.Lines.{listed, widths, widthOf}
 use Rattle.definition.specs.Loaded.{noConstant, ConstantKept, ChunkKept, Kept}
-use Rattle.definition.specs.Value.{Head, null}
+use Rattle.definition.specs.Value.{Head, null, arr}
+use Rattle.definition.specs.Value.{Value as Tree}
+use Rattle.definition.specs.Shape.{shape}
+use Rattle.definition.specs.Operation.{Answer, got, new, bad}
+use Rattle.definition.specs.Arrays.{arrLen}
 use Rattle.definition.specs.Constants.{heads, constantHead, constantAt, functionAt}
 use Rattle.definition.specs.KeptValues.{Closed, scalarFits, wellFormed, ValuesWellFormed}
 use Rattle.definition.proofs.Judged.{cond-elim, false-not-true}
@@ -161,6 +165,10 @@ cast-fits t a h =
     (λ e. cast-to-fits t (truncated (scalarOf a)) (asFloat (scalarOf a)) (as-float-fits (scalarOf a) h)) tt
 
 -- ---- constants
+-- what is below n is at most m
+at-most : (p n m : ℕ) → p < n → n ≤ suc m → leb p m ≡ true
+at-most p n m l e = le-leb p m (omega arith)
+
 listed-below : (k : ℕ) → listed k ≡ true → k < 21
 unfolding listed
 listed-below k e = by (leb k 13) refl e
@@ -180,25 +188,22 @@ module _ (im : Image) (own : ℕ) where
   abbrev Formed : ℕ → ℕ → Head → Type 0
   Formed p kind h = KeptHere (record { kind = kind; payload = p }) → wellFormed im h ≡ true
 
-  below : (p n : ℕ) → 0 < n → p < n → leb p (n - 1) ≡ true
-  below p n z l = le-leb p (n - 1) (omega arith)
-
   by-kind : (p : ℕ) → All (Formed p) 0 (heads p)
   unfolding widthOf widths
   by-kind p =
       (λ q. refl)
       then (λ q. signed-fits I64 p refl (q .payload-fits))
-      then (λ q. below p (2 ^ 64) (pow-pos 64) (q .payload-fits))
+      then (λ q. at-most p _ _ (q .payload-fits) (lit≤ tt))
       then (λ q. signed-fits I32 p refl (q .payload-fits))
-      then (λ q. below p (2 ^ 32) (pow-pos 32) (q .payload-fits))
+      then (λ q. at-most p _ _ (q .payload-fits) (lit≤ tt))
       then (λ q. is-true _ (ofBits-fits binary64 p))
       then (λ q. is-true _ (ofBits-fits binary32 p))
       then (λ q. refl)
       then (λ q. lt-ltb p (length (im .texts)) (q .str refl))
       then (λ q. q .char refl)
-      then (λ q. below p (2 ^ 8) (pow-pos 8) (q .payload-fits))
+      then (λ q. at-most p _ _ (q .payload-fits) (lit≤ tt))
       then (λ q. signed-fits I8 p refl (q .payload-fits))
-      then (λ q. below p (2 ^ 16) (pow-pos 16) (q .payload-fits))
+      then (λ q. at-most p _ _ (q .payload-fits) (lit≤ tt))
       then (λ q. signed-fits I16 p refl (q .payload-fits))
       then (λ q. refl)
       then (λ q. refl)
@@ -212,6 +217,16 @@ module _ (im : Image) (own : ℕ) where
   constant-formed : (c : Constant) → KeptHere c → wellFormed im (constantHead c) ≡ true
   unfolding constantHead
   constant-formed c q = all-at (Formed (c .payload)) 0 (heads (c .payload)) (c .kind) null (by-kind (c .payload)) (listed-below (c .kind) (q .kind-listed)) (c .kind) (omega arith) q
+
+-- ---- the length of an Arr
+abbrev AnswerFits : Answer Tree → Type 0
+AnswerFits (got v) = Unit {0}
+AnswerFits (new x) = wellFormed (record { texts = []; chunks = [] }) (x .head) ≡ true
+AnswerFits (bad e) = Unit {0}
+
+length-fits : (vs : List Tree) → length vs ≤ 1024 → AnswerFits (arrLen (shape arr vs))
+unfolding arrLen
+length-fits vs l = at-most (length vs) 1025 _ (omega arith) (lit≤ tt)
 
 -- ---- all constants of an image
 module _ (im : Image) (kept : Kept im) where
@@ -235,8 +250,8 @@ module _ (im : Image) (kept : Kept im) where
 
   named-one : (own : ℕ) (b : Bool) (c : Constant) → eqb (c .kind) 20 ≡ b → KeptHere im own c → Named (functionAt (c ∷ []) 0)
   unfolding functionAt
-  named-one own true c e q = rw e (lt-ltb (c .payload) (length (im .chunks)) (q .function-there (eqb-true (c .kind) 20 e)))
-  named-one own false c e q = rw e tt
+  named-one own true c e q = simp e (lt-ltb (c .payload) (length (im .chunks)) (q .function-there (eqb-true (c .kind) 20 e)))
+  named-one own false c e q = simp e tt
 
   named : (own : ℕ) (l : List Constant) (n : ℕ) → AllKept own l → Named (functionAt l n)
   unfolding functionAt
@@ -267,7 +282,7 @@ module _ (im : Image) (kept : Kept im) where
         called = λ c start e. e;
         nulls = refl;
         bools = λ b. refl;
-        lengths = λ n l. le-leb n _ (omega arith);
+        lengths = λ vs x l e. subst AnswerFits e (length-fits vs l);
         sums = λ a b x s t e. subst Fits e (arithmetic-fits _ _ (λ k y z. checked-fits k _) add-fits (sameKind (scalarOf a) (scalarOf b)));
         differences = λ a b x s t e. subst Fits e (arithmetic-fits _ _ (λ k y z. checked-fits k _) sub-fits (sameKind (scalarOf a) (scalarOf b)));
         products = λ a b x s t e. subst Fits e (arithmetic-fits _ _ (λ k y z. checked-fits k _) mul-fits (sameKind (scalarOf a) (scalarOf b)));

@@ -7,10 +7,8 @@ use mathlib.Core.Bool.{Bool, true}
 use Prim.Native.Nat.{ℕ, _≤_, _<_}
 use lib.Dec.{ltb}
 use lib.Ieee.{binary32, binary64, fits}
-use lib.IntN.{pos}
 use lib.ListN.{length}
 use Rattle.numbers.specs.declared.Number.{Number}
-use Rattle.numbers.specs.declared.Number.the-variants.{Int}
 use Rattle.numbers.specs.declared.NumberAnswer.the-variants as answer
 use Rattle.numbers.specs.declared.CastTarget.{CastTarget}
 use Rattle.numbers.specs.Kinds.{inRange}
@@ -22,7 +20,10 @@ use Rattle.definition.specs.Lines.{image, loadImage}
 use Rattle.definition.specs.Lines as Lines
 use Rattle.definition.specs.Value.{Head, null, num, bool, str, char, arr, tuple, function, ok, error, err, closure, Value, Values, node, none, more, list}
 use Rattle.definition.specs.Constants.{constantHead, constantAt, functionAt}
+use Rattle.definition.specs.Shape.{shape, scalar}
 use Rattle.definition.specs.Trees.{trees}
+use Rattle.definition.specs.Operation.{new}
+use Rattle.definition.specs.Arrays.{arrLen}
 use Rattle.definition.specs.State.{Frame, State, value}
 use Rattle.definition.specs.Run.{Run, initial, at, IsRun}
 
@@ -59,7 +60,7 @@ pub record Closed (im : Image) (test : Head → Bool) : Type 0 where
   pub called : (c start : ℕ) → test (closure c start) ≡ true → test (function c) ≡ true
   pub nulls : test null ≡ true
   pub bools : (b : Bool) → test (bool b) ≡ true
-  pub lengths : (n : ℕ) → n ≤ 1024 → test (num (Int (pos n))) ≡ true
+  pub lengths : (vs : List Value) (x : Number) → length vs ≤ 1024 → arrLen (shape arr vs) ≡ new (scalar (num x)) → test (num x) ≡ true
   pub sums : (a b x : Number) → test (num a) ≡ true → test (num b) ≡ true → addOf a b ≡ answer.Value x → test (num x) ≡ true
   pub differences : (a b x : Number) → test (num a) ≡ true → test (num b) ≡ true → subOf a b ≡ answer.Value x → test (num x) ≡ true
   pub products : (a b x : Number) → test (num a) ≡ true → test (num b) ≡ true → mulOf a b ≡ answer.Value x → test (num x) ≡ true
