@@ -19,6 +19,9 @@ pub mod SimulatedValues
 pub mod SimulatedRuns
 pub mod Judged
 pub mod Keeps
+pub mod KeptValues
+pub mod WellFormed
+pub mod Endings
 pub mod Laws
 pub mod TableOfSteps
 pub mod Proved

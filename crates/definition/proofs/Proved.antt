@@ -12,6 +12,9 @@ use Rattle.definition.proofs.CountsOfSteps.{counts-of-steps}
 use Rattle.definition.proofs.OneAnswer.{settled, bytes-settled}
 use Rattle.definition.proofs.Equality.{equal-decided}
 use Rattle.definition.proofs.Keeps.{loads-kept}
+use Rattle.definition.proofs.KeptValues.{values-kept}
+use Rattle.definition.proofs.WellFormed.{values-well-formed}
+use Rattle.definition.proofs.Endings.{endings-placed, replies-placed}
 use Rattle.definition.proofs.Answers.{examples-right}
 use Rattle.definition.proofs.Witnesses.{witnessed}
 
@@ -35,6 +38,10 @@ proved = record {
   bytesSettled = bytes-settled;
   equalDecided = equal-decided;
   everyLoadKept = loads-kept;
+  valuesKept = values-kept;
+  valuesWellFormed = values-well-formed;
+  endingsPlaced = endings-placed;
+  repliesPlaced = replies-placed;
   examplesRight = examples-right;
   witnessed = witnessed;
 }

@@ -24,6 +24,8 @@ pub mod Callers
 pub mod Claims
 pub mod Answers
 pub mod Runner
+pub mod KeptValues
+pub mod Endings
 pub mod Simulation
 pub mod Examples
 pub mod Witnesses

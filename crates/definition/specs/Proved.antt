@@ -2,6 +2,8 @@
 use Rattle.definition.specs.Trees.{trees}
 use Rattle.definition.specs.Loaded.{EveryLoadKept}
 use Rattle.definition.specs.Equality.{EqualDecided}
+use Rattle.definition.specs.KeptValues.{ValuesKept, ValuesWellFormed}
+use Rattle.definition.specs.Endings.{EndingsPlaced, RepliesPlaced}
 use Rattle.definition.specs.CheckAnswer.{Settled}
 use Rattle.definition.specs.Answers.{BytesSettled, PassedProtected}
 use Rattle.definition.specs.Examples.{ExamplesRight}
@@ -38,6 +40,12 @@ pub record Proved : Type 0 where
   pub equalDecided : EqualDecided
   -- what every loaded image keeps
   pub everyLoadKept : EveryLoadKept
+  -- what every value of a run keeps: numbers in their kind's range, Chars, texts and chunks that exist
+  pub valuesKept : ValuesKept
+  pub valuesWellFormed : ValuesWellFormed
+  -- a stop's number and place
+  pub endingsPlaced : EndingsPlaced
+  pub repliesPlaced : RepliesPlaced
   -- the worked images
   pub examplesRight : ExamplesRight
   -- and nothing of this is true of nothing
