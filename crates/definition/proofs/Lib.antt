@@ -1,6 +1,7 @@
--- The worked images first: they compute the whole definition. Then, in order: demand 3; the other claims; equality; the simulation of one
--- algebra by another; the format; the laws for proofs of code, and the table of whole steps by them
+-- The worked images first: they compute the whole definition; then the images that pass. Then, in order: demand 3; the other claims; equality; the
+-- simulation of one algebra by another; the format; the laws for proofs of code, and the table of whole steps by them
 pub mod Answers
+pub mod CheckedImages
 pub mod Instructions
 pub mod Invariant
 pub mod Protected
