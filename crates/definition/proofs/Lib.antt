@@ -1,6 +1,8 @@
--- The worked images first: they compute the whole definition. Then, in order: what every step does, of every image; demand 3; the other
--- claims; equality; the simulation of one algebra by another; the format; the laws for proofs of code, and the table of whole steps by them
+-- The worked images first: they compute the whole definition; then the images that pass. Then, in order: what every step does, of every image;
+-- demand 3; the other claims; equality; the simulation of one algebra by another; the format; the laws for proofs of code, and the table of whole
+-- steps by them
 pub mod Answers
+pub mod CheckedImages
 pub mod Frames
 pub mod FaultsOfSteps
 pub mod CountsOfSteps

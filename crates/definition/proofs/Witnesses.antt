@@ -28,6 +28,7 @@ use Rattle.definition.proofs.TestedHeights as tested
 use Rattle.definition.proofs.TestedHeights.{both, afterTest, exactTest, pick, arrives, stands, local, every}
 use Rattle.definition.proofs.Protected.{begins, demand3, no-code}
 use Rattle.definition.proofs.Frames.{runs}
+use Rattle.definition.proofs.CheckedImages.{passing-passes}
 
 -- the offsets of a list
 abbrev marks : List ℕ → ℕ → Bool
@@ -163,6 +164,7 @@ pub witnessed : Witnessed
 witnessed = record {
   loads = loads;
   passing = passes calls-pass;
+  eachPasses = passing-passes;
   fault10 = fails-10;
   fault11 = fails-11;
   fault12 = fails-12;
