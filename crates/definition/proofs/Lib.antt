@@ -17,4 +17,5 @@ pub mod Judged
 pub mod Keeps
 pub mod Laws
 pub mod TableOfSteps
+pub mod ChangeOfHeight
 pub mod Proved

@@ -4,6 +4,7 @@ use Rattle.definition.specs.Proved.{Proved}
 use Rattle.definition.proofs.Protected.{begins, demand3, passed-protected}
 use Rattle.definition.proofs.Frames.{runs, changes, call-returns, table-right}
 use Rattle.definition.proofs.TableOfSteps.{table-of-steps}
+use Rattle.definition.proofs.ChangeOfHeight.{height-by-change}
 use Rattle.definition.proofs.OneRun.{one-run, one-reply}
 use Rattle.definition.proofs.Spent.{counts}
 use Rattle.definition.proofs.OneAnswer.{settled, bytes-settled}
@@ -23,6 +24,7 @@ proved = record {
   counts = counts trees;
   tableRight = table-right trees;
   tableOfSteps = table-of-steps trees;
+  heightByChange = height-by-change;
   changes = changes trees;
   returns = call-returns trees;
   settled = settled;

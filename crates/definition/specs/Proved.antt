@@ -2,6 +2,7 @@
 use Rattle.definition.specs.Trees.{trees}
 use Rattle.definition.specs.Loaded.{EveryLoadKept}
 use Rattle.definition.specs.Equality.{EqualDecided}
+use Rattle.definition.specs.StackCheck.{HeightByChange}
 use Rattle.definition.specs.CheckAnswer.{Settled}
 use Rattle.definition.specs.Answers.{BytesSettled, PassedProtected}
 use Rattle.definition.specs.Examples.{ExamplesRight}
@@ -22,6 +23,7 @@ pub record Proved : Type 0 where
   -- the table is that of the steps
   pub tableRight : TableRight trees
   pub tableOfSteps : TableOfSteps trees
+  pub heightByChange : HeightByChange
   -- frames go on only by a Call, and off only by a Return, a Propagate of an Err or the code's end
   pub changes : Changes trees
   pub returns : Returns trees
