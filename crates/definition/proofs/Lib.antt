@@ -26,4 +26,5 @@ pub mod WellFormed
 pub mod Endings
 pub mod Laws
 pub mod TableOfSteps
+pub mod ChangeOfHeight
 pub mod Proved

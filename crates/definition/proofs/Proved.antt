@@ -4,6 +4,7 @@ use Rattle.definition.specs.Proved.{Proved}
 use Rattle.definition.proofs.Protected.{begins, demand3, passed-protected}
 use Rattle.definition.proofs.Frames.{runs, changes, call-returns, table-right}
 use Rattle.definition.proofs.TableOfSteps.{table-of-steps}
+use Rattle.definition.proofs.ChangeOfHeight.{height-by-change}
 use Rattle.definition.proofs.FaultsOfSteps.{faults-of-steps}
 use Rattle.definition.proofs.LowerSlots.{lower-slots}
 use Rattle.definition.proofs.OneRun.{one-run, one-reply}
@@ -30,6 +31,7 @@ proved = record {
   countsOfSteps = counts-of-steps trees;
   tableRight = table-right trees;
   tableOfSteps = table-of-steps trees;
+  heightByChange = height-by-change;
   faultsOfSteps = faults-of-steps trees;
   lowerSlots = lower-slots trees;
   changes = changes trees;

@@ -2,6 +2,7 @@
 use Rattle.definition.specs.Trees.{trees}
 use Rattle.definition.specs.Loaded.{EveryLoadKept}
 use Rattle.definition.specs.Equality.{EqualDecided}
+use Rattle.definition.specs.StackCheck.{HeightByChange}
 use Rattle.definition.specs.KeptValues.{ValuesKept, ValuesWellFormed}
 use Rattle.definition.specs.Endings.{EndingsPlaced, RepliesPlaced}
 use Rattle.definition.specs.CheckAnswer.{Settled}
@@ -26,6 +27,7 @@ pub record Proved : Type 0 where
   -- the table is that of the steps
   pub tableRight : TableRight trees
   pub tableOfSteps : TableOfSteps trees
+  pub heightByChange : HeightByChange
   -- what the check calls 10, 12 or 11 is what a step stops with
   pub faultsOfSteps : FaultsOfSteps trees
   -- no step changes a slot below its frame's base

@@ -1,4 +1,5 @@
 pub mod Nodes
+pub mod Sums
 pub mod Found
 pub mod Theory
 pub mod Same

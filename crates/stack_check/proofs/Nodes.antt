@@ -3,12 +3,15 @@ use mathlib.Core.Path.{_≡_, refl, sym, _∙_, ap}
 use mathlib.Core.List.{List, [], _∷_, map}
 use mathlib.Core.Logic.{_⊎_, ⊎-elim}
 use mathlib.Core.Option.{Option, none, some}
-use Prim.Native.Nat.{ℕ, zero, suc, _+_, _*_, _-_, _≤_, _<_}
+use Prim.Native.Nat.{ℕ, zero, suc, _+_, _*_, _-_, _^_, _≤_, _<_}
 use native.Mathlib.Omega.{arith}
 use borrow.Author.Tests.{le-leb}
+use lib.IntN.{ℤ, pos, negsuc, _+ℤ_, _-ℤ_}
 use Rattle.definition.specs.Image.{Chunk}
 use Rattle.definition.specs.Table as table
+use Rattle.definition.specs.Table.{added}
 use Rattle.definition.specs.Decode as definition
+use Rattle.definition.proofs.ChangeOfHeight.{rise, fall, added-by, added-sum, lessened, need-is, falls-covered}
 use Rattle.chunk.specs.Table.{flowOf, flowNumber, flowAt}
 use Rattle.chunk.specs.Decode.{held, instrOf}
 use Rattle.chunk.specs.Fault.{kindsOf}
@@ -16,7 +19,8 @@ use Rattle.chunk.specs.declared.Flow.{Flow}
 use Rattle.chunk.specs.declared.Flow.the-variants.{Straight, Opens, Closes, Forward, Backward, Forks, Ends, MayEnd}
 use Rattle.chunk.specs.declared.Instr.{Instr}
 use Rattle.chunk.proofs.Rows as rows
-use Rattle.stack_check.specs.Node.{turnOf, firstOf, secondOf, nodeOf, nodeAt, NodeIs, ofKind}
+use Rattle.stack_check.specs.Node.{turnOf, firstOf, secondOf, nodeOf, nodeAt, NodeIs, Drawn, ofKind}
+use Rattle.stack_check.specs.Flat.{Changeable}
 use Rattle.stack_check.specs.declared.Turn.{Turn}
 use Rattle.stack_check.specs.declared.Node.{Node}
 
@@ -48,27 +52,45 @@ opens-small c p = from (definition.decode (c .code) p)
     from none = omega arith
     from (some i) = opens-by (flowOf (table.row (i .op) .flow))
 
-pub leaves-small : (c : Chunk) (p : ℕ) → nodeAt c p .leaves ≤ 1
+-- a change takes no more than is needed, and adds one at most
+falls-needed : (c : Chunk) (p : ℕ) → fall (nodeAt c p .change) ≤ nodeAt c p .need
 unfolding nodeAt
-leaves-small c p = from (definition.decode (c .code) p)
+falls-needed c p = from (definition.decode (c .code) p)
   where
-    from : (x : Option definition.Instr) → nodeOf p x .leaves ≤ 1
+    from : (x : Option definition.Instr) → fall (nodeOf p x .change) ≤ nodeOf p x .need
     from none = omega arith
-    from (some i) = rows.leaves-small (i .op)
+    from (some i) = falls-covered (i .op) (i .a)
+
+rises-one : (c : Chunk) (p : ℕ) → rise (nodeAt c p .change) ≤ 1
+unfolding nodeAt
+rises-one c p = from (definition.decode (c .code) p)
+  where
+    from : (x : Option definition.Instr) → rise (nodeOf p x .change) ≤ 1
+    from none = omega arith
+    from (some i) = omega (arith, rows.rise-small (i .op), lessened (table.row (i .op) .change) (table.times (table.row (i .op) .per) (i .a)) .rises)
+
+module _ (c : Chunk) (p h : ℕ) where
+  pub one-more : added h (nodeAt c p .change) ≤ h + 1
+  one-more = omega (arith, added-by h (nodeAt c p .change), rises-one c p)
+
+  pub changeable : nodeAt c p .need ≤ h → h + 1 < 2 ^ 63 → Changeable h (nodeAt c p .change)
+  changeable e l =
+      record { whole = added-sum h (nodeAt c p .change) (omega (arith, falls-needed c p)); before = omega arith; after = omega (arith, one-more) }
 
 -- the operand that the code holds is the definition's where the row counts it or jumps by it
 held-same : (z a : ℕ) → 3 ≤ z → held 3 z a ≡ a
 held-same z a h = simp (le-leb 3 z h)
 
-zero-times : (n k x y : ℕ) → k ≡ 0 → n + k * x ≡ n + k * y
-zero-times n k x y e = rw e (omega arith)
+zero-times : (k x y : ℕ) → k ≡ 0 → k * x ≡ k * y
+zero-times k x y e = rw e (omega arith)
 
-need-same : (o : table.OpCode) (a : ℕ) → table.row o .need + table.row o .per * held 3 (table.size o) a ≡ table.need o a
-need-same o a =
+counted-same : (o : table.OpCode) (a : ℕ) → table.row o .per * held 3 (table.size o) a ≡ table.times (table.row o .per) a
+counted-same o a =
     ⊎-elim
-    (λ e. zero-times (table.row o .need) (table.row o .per) (held 3 (table.size o) a) a e ∙ sym (rows.need-is o a))
-    (λ h. ap (λ (x : ℕ). table.row o .need + table.row o .per * x) (held-same (table.size o) a h) ∙ sym (rows.need-is o a))
+    (λ e. zero-times (table.row o .per) (held 3 (table.size o) a) a e)
+    (λ h. ap (λ (x : ℕ). table.row o .per * x) (held-same (table.size o) a h))
     (rows.counts-there o)
+    ∙ sym (rows.counted-is o a)
 
 first-same : (o : table.OpCode) (f : table.Flow) (n a : ℕ) → table.row o .flow ≡ f → firstOf (flowOf f) n (held 3 (table.size o) a) ≡ firstOf (flowOf f) n a
 first-same o table.straight n a e = refl
@@ -92,28 +114,48 @@ second-same o table.mayEnd n a e = refl
 
 -- the node that the code makes, from what its calls gave
 pub node-is :
-    (i : Instr) (f : Flow) (t : Turn) (x y : ℕ) → f ≡ flowAt (i .row .flow) → t ≡ turnOf f → x ≡ firstOf f (i .next .at) (i .a) → y ≡ secondOf f (i .next .at) (i .a)
-    → NodeIs i (record { need = i .row .need + i .row .per * i .a; leaves = i .row .leaves; exact = t .exact; drops = t .drops; opens = t .opens; ends = t .ends; first = x; second = y })
-node-is i f t x y ef et ex ey p d e =
+    (i : Instr) (f : Flow) (t : Turn) (x y : ℕ) (z : ℤ) → f ≡ flowAt (i .row .flow) → t ≡ turnOf f → x ≡ firstOf f (i .next .at) (i .a) → y ≡ secondOf f (i .next .at) (i .a)
+    → z ≡ i .row .change -ℤ pos (i .row .per * i .a)
+    → NodeIs i (record { need = i .row .need + i .row .per * i .a; change = z; exact = t .exact; drops = t .drops; opens = t .opens; ends = t .ends; first = x; second = y })
+node-is i f t x y z ef et ex ey ez p d e =
     let o = d .op in
     let g : f ≡ flowOf (table.row o .flow) = ef ∙ ap flowAt (ap (λ (j : Instr). j .row .flow) e) ∙ flow-back (table.row o .flow) in
     let x₁ : x ≡ firstOf (flowOf (table.row o .flow)) (p + table.size o) (d .a) =
     ex ∙ rw (g, e) (first-same o (table.row o .flow) (p + table.size o) (d .a) refl) in
     let y₁ : y ≡ secondOf (flowOf (table.row o .flow)) (p + table.size o) (d .a) =
     ey ∙ rw (g, e) (second-same o (table.row o .flow) (p + table.size o) (d .a) refl) in
-    let n₁ : i .row .need + i .row .per * i .a ≡ table.need o (d .a) = rw e (need-same o (d .a)) in
-    let l₁ : i .row .leaves ≡ table.leaves o = ap (λ (j : Instr). j .row .leaves) e in
+    let n₁ : i .row .need + i .row .per * i .a ≡ table.need o (d .a) = rw e (ap (λ (k : ℕ). table.row o .need + k) (counted-same o (d .a)) ∙ sym (need-is o (d .a))) in
+    let z₁ : z ≡ table.change o (d .a) = ez ∙ rw e (ap (λ (k : ℕ). table.row o .change -ℤ pos k) (counted-same o (d .a))) in
     let t₁ : t ≡ turnOf (flowOf (table.row o .flow)) = et ∙ ap turnOf g in
-    all n₁ l₁ (ap (λ (u : Turn). u .exact) t₁) (ap (λ (u : Turn). u .drops) t₁) (ap (λ (u : Turn). u .opens) t₁) (ap (λ (u : Turn). u .ends) t₁) x₁ y₁
+    all n₁ z₁ (ap (λ (u : Turn). u .exact) t₁) (ap (λ (u : Turn). u .drops) t₁) (ap (λ (u : Turn). u .opens) t₁) (ap (λ (u : Turn). u .ends) t₁) x₁ y₁
   where
     all :
-        {n l e d o s x y n′ l′ e′ d′ o′ s′ x′ y′ : ℕ} → n ≡ n′ → l ≡ l′ → e ≡ e′ → d ≡ d′ → o ≡ o′ → s ≡ s′ → x ≡ x′ → y ≡ y′
-        → _≡_ {A = Node} (record { need = n; leaves = l; exact = e; drops = d; opens = o; ends = s; first = x; second = y }) (record { need = n′; leaves = l′; exact = e′; drops = d′; opens = o′; ends = s′; first = x′; second = y′ })
+        {n e d o s x y n′ e′ d′ o′ s′ x′ y′ : ℕ} {z z′ : ℤ} → n ≡ n′ → z ≡ z′ → e ≡ e′ → d ≡ d′ → o ≡ o′ → s ≡ s′ → x ≡ x′ → y ≡ y′
+        → _≡_ {A = Node} (record { need = n; change = z; exact = e; drops = d; opens = o; ends = s; first = x; second = y }) (record { need = n′; change = z′; exact = e′; drops = d′; opens = o′; ends = s′; first = x′; second = y′ })
     all a b c f g h k m = rw (a, b, c, f, g, h, k, m)
 
--- what a row keeps, of the code's
-pub row-small : (i : Instr) (p : ℕ) (d : definition.Instr) → i ≡ instrOf p d → (i .row .need ≤ 3) × (i .row .per ≤ 1) × (i .row .leaves ≤ 1)
-row-small i p d e = rw e (rows.need-small (d .op), rows.per-small (d .op), rows.leaves-small (d .op))
+-- the numbers of an instruction are small
+pub record Limits (i : Instr) : Type 0 where
+  pub need : i .row .need ≤ 3
+  pub rises : rise (i .row .change) ≤ 1
+  pub falls : fall (i .row .change) ≤ 2
+  pub counted : i .row .per * i .a < 65536
+
+product-small : (k a : ℕ) → k ≤ 1 → a < 65536 → k * a < 65536
+product-small zero a h l = omega arith
+product-small (suc zero) a h l = omega arith
+product-small (suc (suc k)) a h l = omega arith
+
+pub limits : (i : Instr) → Drawn i → Limits i
+limits i w =
+    let o = w .1 .op in
+    let e = w .2 .is in
+    record {
+      need = rw e (rows.need-small o);
+      rises = rw e (rows.rise-small o);
+      falls = rw e (rows.fall-small o);
+      counted = product-small (i .row .per) (i .a) (rw e (rows.per-small o)) (w .2 .small .a);
+    }
 
 pub kinds-back : (kinds : List ℕ) → kindsOf (map ofKind kinds) ≡ kinds
 kinds-back [] = refl
@@ -132,8 +174,3 @@ turn-is r t a b c d = all a b c d
         {e d o s e′ d′ o′ s′ : ℕ} → e ≡ e′ → d ≡ d′ → o ≡ o′ → s ≡ s′
         → _≡_ {A = Turn} (record { exact = e; drops = d; opens = o; ends = s }) (record { exact = e′; drops = d′; opens = o′; ends = s′ })
     all a b c d = rw (a, b, c, d)
-
-pub product-small : (k a : ℕ) → k ≤ 1 → a < 65536 → k * a < 65536
-product-small zero a h l = omega arith
-product-small (suc zero) a h l = omega arith
-product-small (suc (suc k)) a h l = omega arith

@@ -4,18 +4,20 @@ use mathlib.Core.Logic.{_⊎_, inl, inr, ⊎-elim}
 use mathlib.Core.Option.{Option, none, some}
 use Prim.Native.Nat.{ℕ, _+_, _-_, _≤_, _<_}
 use native.Mathlib.Omega.{arith}
+use lib.IntN.{ℤ}
 use lib.ListN.{length}
 use Rattle.definition.specs.Image.{Chunk}
 use Rattle.definition.specs.Table as table
 use Rattle.definition.specs.Decode.{Instr, decode, fault}
 use Rattle.definition.specs.StackCheck as rules
 use Rattle.definition.specs.CheckAnswer as answer
+use Rattle.definition.proofs.ChangeOfHeight.{height-is}
 use Rattle.chunk.specs.Table.{flowOf}
 use Rattle.stack_check.specs.Node.{turnOf, nodeBy, nodeOf, nodeAt}
 use Rattle.stack_check.specs.Flat.{Goes, Reach, Comes, Fit, Obeys, Assigned, NoFault, Lowest, heightAfter, depthAfter}
 
 -- where control goes
-goes-by : (f : table.Flow) (n l z a p t : ℕ) → Goes (nodeBy (flowOf f) n l (p + z) a) t → rules.AfterBy f z a p t
+goes-by : (f : table.Flow) (n : ℕ) (l : ℤ) (z a p t : ℕ) → Goes (nodeBy (flowOf f) n l (p + z) a) t → rules.AfterBy f z a p t
 goes-by table.straight n l z a p t g = ⊎-elim (λ e. e) (λ e. e) (g .1)
 goes-by table.opens n l z a p t g = ⊎-elim (λ e. e) (λ e. e) (g .1)
 goes-by table.closes n l z a p t g = ⊎-elim (λ e. e) (λ e. e) (g .1)
@@ -25,7 +27,7 @@ goes-by table.forks n l z a p t g = ⊎-elim (λ e. inr e) (λ e. inl e) (g .1)
 goes-by table.ends n l z a p t g = let z : _≡_ {A = ℕ} 1 0 = g .0 in omega arith
 goes-by table.mayEnd n l z a p t g = ⊎-elim (λ e. e) (λ e. e) (g .1)
 
-after-by : (f : table.Flow) (n l z a p t : ℕ) → rules.AfterBy f z a p t → Goes (nodeBy (flowOf f) n l (p + z) a) t
+after-by : (f : table.Flow) (n : ℕ) (l : ℤ) (z a p t : ℕ) → rules.AfterBy f z a p t → Goes (nodeBy (flowOf f) n l (p + z) a) t
 after-by table.straight n l z a p t g = (refl, inl g)
 after-by table.opens n l z a p t g = (refl, inl g)
 after-by table.closes n l z a p t g = (refl, inl g)
@@ -36,10 +38,10 @@ after-by table.ends n l z a p t g = absurd g
 after-by table.mayEnd n l z a p t g = (refl, inl g)
 
 goes-after : (p t : ℕ) (i : Instr) → Goes (nodeOf p (some i)) t → rules.After (i .op) (i .a) p t
-goes-after p t i g = goes-by (table.row (i .op) .flow) (table.need (i .op) (i .a)) (table.leaves (i .op)) (table.size (i .op)) (i .a) p t g
+goes-after p t i g = goes-by (table.row (i .op) .flow) (table.need (i .op) (i .a)) (table.change (i .op) (i .a)) (table.size (i .op)) (i .a) p t g
 
 after-goes : (p t : ℕ) (i : Instr) → rules.After (i .op) (i .a) p t → Goes (nodeOf p (some i)) t
-after-goes p t i g = after-by (table.row (i .op) .flow) (table.need (i .op) (i .a)) (table.leaves (i .op)) (table.size (i .op)) (i .a) p t g
+after-goes p t i g = after-by (table.row (i .op) .flow) (table.need (i .op) (i .a)) (table.change (i .op) (i .a)) (table.size (i .op)) (i .a) p t g
 
 -- an instruction that may leave its frame needs one operand
 needs-one : (o : table.OpCode) (a : ℕ) → turnOf (flowOf (table.row o .flow)) .exact ≡ 1 → table.need o a ≡ 1
@@ -123,7 +125,7 @@ depth-is table.Cast d = omega arith
 depth-is table.IsKind d = omega arith
 
 -- what is asked of height and depth
-exact-by : (f : table.Flow) (n l x a h d : ℕ) → (turnOf (flowOf f) .exact ≡ 1 → n ≡ 1) → Fit (nodeBy (flowOf f) n l x a) h d → rules.ExactBy f h d
+exact-by : (f : table.Flow) (n : ℕ) (l : ℤ) (x a h d : ℕ) → (turnOf (flowOf f) .exact ≡ 1 → n ≡ 1) → Fit (nodeBy (flowOf f) n l x a) h d → rules.ExactBy f h d
 exact-by table.straight n l x a h d o F = tt
 exact-by table.opens n l x a h d o F = tt
 exact-by table.closes n l x a h d o F = F .scoped
@@ -136,7 +138,7 @@ exact-by table.mayEnd n l x a h d o F = F .exactly (λ e. omega arith) ∙ o ref
 not-zero : {A : Type 0} → (_≡_ {A = ℕ} 0 0 → ⊥) → A
 not-zero f = absurd (f refl)
 
-fit-by : (f : table.Flow) (n l x a h d : ℕ) → (turnOf (flowOf f) .exact ≡ 1 → n ≡ 1) → n ≤ h → rules.ExactBy f h d → Fit (nodeBy (flowOf f) n l x a) h d
+fit-by : (f : table.Flow) (n : ℕ) (l : ℤ) (x a h d : ℕ) → (turnOf (flowOf f) .exact ≡ 1 → n ≡ 1) → n ≤ h → rules.ExactBy f h d → Fit (nodeBy (flowOf f) n l x a) h d
 fit-by table.straight n l x a h d o e F = record { enough = e; exactly = λ z. not-zero z; scoped = omega arith }
 fit-by table.opens n l x a h d o e F = record { enough = e; exactly = λ z. not-zero z; scoped = omega arith }
 fit-by table.closes n l x a h d o e F = record { enough = e; exactly = λ z. not-zero z; scoped = F }
@@ -191,11 +193,11 @@ module _ {c : Chunk} {H D : ℕ → ℕ} where
         first-depth = A .depth;
         enough = λ p i r S. obeys A p i r S .fit .enough;
         exact = λ p i r S.
-            exact-by (table.row (i .op) .flow) (table.need (i .op) (i .a)) (table.leaves (i .op)) (p + table.size (i .op)) (i .a) (H p) (D p) (needs-one (i .op) (i .a))
+            exact-by (table.row (i .op) .flow) (table.need (i .op) (i .a)) (table.change (i .op) (i .a)) (p + table.size (i .op)) (i .a) (H p) (D p) (needs-one (i .op) (i .a))
             (obeys A p i r S .fit);
-        height = λ p q i r S a l. comes A p i r S q a .height l;
+        height = λ p q i r S a l. comes A p i r S q a .height l ∙ height-is (i .op) (i .a) (H p) (obeys A p i r S .fit .enough);
         depth = λ p q i r S a l. comes A p i r S q a .depth l ∙ depth-is (i .op) (D p);
-        ends = λ p q i r S a l. comes A p i r S q a .empty l;
+        ends = λ p q i r S a l. sym (height-is (i .op) (i .a) (H p) (obeys A p i r S .fit .enough)) ∙ comes A p i r S q a .empty l;
       }
 
   pub heights-from : rules.Heights c H D → Assigned c H D
@@ -211,14 +213,15 @@ module _ {c : Chunk} {H D : ℕ → ℕ} where
             rw (node-as S)
             (record {
               fit =
-                  fit-by (table.row (i .op) .flow) (table.need (i .op) (i .a)) (table.leaves (i .op)) (o + table.size (i .op)) (i .a) (H o) (D o) (needs-one (i .op) (i .a))
+                  fit-by (table.row (i .op) .flow) (table.need (i .op) (i .a)) (table.change (i .op) (i .a)) (o + table.size (i .op)) (i .a) (H o) (D o) (needs-one (i .op) (i .a))
                   (G .enough o i R S) (G .exact o i R S);
               goes = λ t g.
                   let a = goes-after o t i g in
+                  let e = height-is (i .op) (i .a) (H o) (G .enough o i R S) in
                   record {
-                    height = λ m. G .height o t i R S a m;
+                    height = λ m. G .height o t i R S a m ∙ sym e;
                     depth = λ m. G .depth o t i R S a m ∙ sym (depth-is (i .op) (D o));
-                    empty = λ m. G .ends o t i R S a m;
+                    empty = λ m. e ∙ G .ends o t i R S a m;
                   };
             });
       }

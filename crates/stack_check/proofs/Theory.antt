@@ -2,7 +2,7 @@
 use mathlib.Core.Path.{_≡_, refl, sym, _∙_, ap, subst}
 use mathlib.Core.List.{List, [], _∷_}
 use mathlib.Core.Logic.{_⊎_, inl, inr, ⊎-elim}
-use Prim.Native.Nat.{ℕ, zero, suc, _+_, _-_, _≤_, _<_}
+use Prim.Native.Nat.{ℕ, zero, suc, _+_, _-_, _≤_, _<_, _^_}
 use native.Mathlib.Nat.{le-of-suc-le-suc, not-suc-le-zero}
 use native.Mathlib.Numerals.{add-one}
 use native.Mathlib.Omega.{arith}
@@ -12,8 +12,8 @@ use Rattle.clearing.proofs.Orders.{same-or, below-or, below-next}
 use Rattle.definition.specs.Image.{Chunk}
 use Rattle.definition.specs.Decode.{fault}
 use Rattle.stack_check.specs.Node.{nodeAt}
-use Rattle.stack_check.proofs.Nodes.{leaves-small, opens-small}
-use Rattle.stack_check.specs.Flat.{Goes, Reach, Assigned, Fit, Obeys, Lowest, NoFault, heightAfter, depthAfter}
+use Rattle.stack_check.proofs.Nodes.{one-more, changeable, opens-small}
+use Rattle.stack_check.specs.Flat.{Goes, Reach, Assigned, Fit, Obeys, Lowest, NoFault, heightAfter, depthAfter, Changeable}
 use Rattle.stack_check.specs.Progress.{zeros, zero-at, Arrived, HandledAt, Listed, Forced, Progress, Kept, Coming, Visited, Spread, Handling}
 use Rattle.stack_check.specs.declared.Search.{Search}
 use Rattle.stack_check.specs.declared.Node.{Node}
@@ -357,8 +357,13 @@ module _
 
     pub height-small : heightAfter n (getD hs o 0 - 1) ≤ s .tail
     height-small =
-        let l : n .leaves ≤ 1 = rw is (leaves-small c o) in
+        let l : heightAfter n (getD hs o 0 - 1) ≤ getD hs o 0 - 1 + 1 = rw is (one-more c o (getD hs o 0 - 1)) in
         omega (arith, P .low-heights o (L .inside), L .seen)
+
+    pub change-room : n .need ≤ getD hs o 0 - 1 → length hs < 2 ^ 63 → Changeable (getD hs o 0 - 1) (n .change)
+    change-room e l =
+        let k : nodeAt c o .need ≤ getD hs o 0 - 1 = rw is at e in
+        rw is (changeable c o (getD hs o 0 - 1) k (omega (arith, P .low-heights o (L .inside), P .room, L .seen)))
 
     pub depth-small : depthAfter n (getD ds o 0) ≤ s .tail
     depth-small =

@@ -2,9 +2,11 @@
 -- definition's (`Reach`, `Heights` of the crate `definition`), of which the contracts speak.
 use mathlib.Core.Path.{_≡_}
 use mathlib.Core.Logic.{_⊎_}
-use Prim.Native.Nat.{ℕ, _+_, _-_, _≤_, _<_}
+use Prim.Native.Nat.{ℕ, _+_, _-_, _^_, _≤_, _<_}
+use lib.IntN.{ℤ, pos, _+ℤ_}
 use lib.ListN.{length}
 use Rattle.definition.specs.Image.{Chunk}
+use Rattle.definition.specs.Table.{added}
 use Rattle.definition.specs.Decode.{fault}
 use Rattle.stack_check.specs.Node.{nodeAt}
 use Rattle.stack_check.specs.declared.Node.{Node}
@@ -30,12 +32,18 @@ pub record Fit (n : Node) (h d : ℕ) : Type 0 where
   pub exactly : (n .exact ≡ 0 → ⊥) → h ≡ n .need
   pub scoped : n .drops ≤ d
 
--- the height and the depth after it
+-- the height and the depth after it: "the height goes by the table's change"
 abbrev pub heightAfter : Node → ℕ → ℕ
-heightAfter n h = h - n .need + n .leaves
+heightAfter n h = added h (n .change)
 
 abbrev pub depthAfter : Node → ℕ → ℕ
 depthAfter n d = d - n .drops + n .opens
+
+-- a height that is changed by z stays one, and is no more than the machine counts
+pub record Changeable (h : ℕ) (z : ℤ) : Type 0 where
+  pub whole : pos (added h z) ≡ pos h +ℤ z
+  pub before : h < 2 ^ 63
+  pub after : added h z < 2 ^ 63
 
 -- an instruction at height h and depth d
 pub record Obeys (c : Chunk) (H D : ℕ → ℕ) (n : Node) (h d : ℕ) : Type 0 where

@@ -3,6 +3,7 @@ use mathlib.Core.Path.{_≡_}
 use mathlib.Core.List.{List, map}
 use mathlib.Core.Option.{Option, none, some}
 use Prim.Native.Nat.{ℕ, _+_, _-_, _<_}
+use lib.IntN.{ℤ, pos}
 use Rattle.definition.specs.Image.{Constant, Chunk}
 use Rattle.definition.specs.Table as table
 use Rattle.definition.specs.Decode as definition
@@ -51,11 +52,11 @@ secondOf Ends next a = next
 secondOf MayEnd next a = next
 
 -- a node of an instruction with that flow
-abbrev pub nodeBy : Flow → ℕ → ℕ → ℕ → ℕ → Node
-nodeBy f need leaves next a =
+abbrev pub nodeBy : Flow → ℕ → ℤ → ℕ → ℕ → Node
+nodeBy f need change next a =
     record {
       need = need;
-      leaves = leaves;
+      change = change;
       exact = turnOf f .exact;
       drops = turnOf f .drops;
       opens = turnOf f .opens;
@@ -65,8 +66,8 @@ nodeBy f need leaves next a =
     }
 
 abbrev pub nodeOf : ℕ → Option definition.Instr → Node
-nodeOf p none = nodeBy Ends 0 0 0 0
-nodeOf p (some i) = nodeBy (flowOf (table.row (i .op) .flow)) (table.need (i .op) (i .a)) (table.leaves (i .op)) (p + table.size (i .op)) (i .a)
+nodeOf p none = nodeBy Ends 0 (pos 0) 0 0
+nodeOf p (some i) = nodeBy (flowOf (table.row (i .op) .flow)) (table.need (i .op) (i .a)) (table.change (i .op) (i .a)) (p + table.size (i .op)) (i .a)
 
 -- the instruction at an offset of a chunk, where there is one
 unfoldable pub nodeAt : Chunk → ℕ → Node

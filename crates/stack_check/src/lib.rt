@@ -6,7 +6,7 @@ ghost use lib.ListN.{length, getD};
 ghost use Rattle.definition.specs.Decode.{fault};
 ghost use Rattle.chunk.specs.Fault.{faultNumber};
 ghost use Rattle.stack_check.specs.Node.{turnOf, firstOf, secondOf, Drawn, NodeIs, Here, chunkOf};
-ghost use Rattle.stack_check.specs.Flat.{Goes};
+ghost use Rattle.stack_check.specs.Flat.{Goes, Changeable, heightAfter};
 ghost use Rattle.stack_check.specs.Progress.{Progress, Coming, Visited, Spread, Handling, Tested, Listed};
 ghost use Rattle.stack_check.specs.Answer.{reasonNumber, ChunkIs, ChunkDecided, RowLent, RowDecided, Roomy, Lent, Decided};
 ghost use Rattle.clearing.specs.Zero.{AllZero};
@@ -50,7 +50,7 @@ pub struct Turn {
 // What an instruction asks and does, and where control goes after it. `first` and `second` are the same but for JumpIfFalse.
 pub struct Node {
     pub need: usize,
-    pub leaves: usize,
+    pub change: isize,
     pub exact: usize,
     pub drops: usize,
     pub opens: usize,
@@ -154,9 +154,10 @@ fn node_of(i: Instr) -> Node
     let a = i.a;
     let flow = chunk::flow_of(row.flow);
     let t = turn_of(flow);
+    let counted = row.per * a;
     Node {
-        need: row.need + row.per * a,
-        leaves: row.leaves,
+        need: row.need + counted,
+        change: row.change - counted as isize,
         exact: t.exact,
         drops: t.drops,
         opens: t.opens,
@@ -164,6 +165,14 @@ fn node_of(i: Instr) -> Node
         first: first_of(flow, next, a),
         second: second_of(flow, next, a),
     }
+}
+
+// The height after an instruction at height h: that and the change.
+fn height_after(node: Node, h: usize) -> usize
+    requires { ⌜ Changeable h (node .change) ⌝ }
+    ensures { λ r. ⌜ r ≡ heightAfter node h ⌝ }
+{
+    (h as isize + node.change) as usize
 }
 
 // Whether an instruction is fit for height h and depth d: 0 for no.
@@ -282,7 +291,7 @@ fn handle(
         };
         return spread(code, kinds, heights, depths, todo, broken, node, 0, 0);
     }
-    let h2 = h - node.need + node.leaves;
+    let h2 = height_after(node, h);
     let d2 = d - node.drops + node.opens;
     spread(code, kinds, heights, depths, todo, s, node, h2, d2)
 }

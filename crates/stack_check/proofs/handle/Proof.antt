@@ -1,13 +1,13 @@
+-- `stack_check::handle` meets its contract. `node` says that the node made is the one at the offset. Assumes nothing.
 use borrow.Author.Needs.{needs}
 use Rattle.stack_check.proofs.handle.Statement.{statement}
 use Rattle.stack_check.proofs.handle.Tie as tie
 use native.Mathlib.Omega.{arith}
-use Prim.Native.Nat.{_-_}
 use Rattle.stack_check.proofs.Found.{drawn, node-here}
-use Rattle.stack_check.proofs.Theory.{progress-broken, unfit-wrong, coming-wrong, coming-right, height-small, depth-small, tail-small, handling-right, handling-wrong}
+use Rattle.stack_check.proofs.Theory.{progress-broken, unfit-wrong, coming-wrong, coming-right, change-room, depth-small, tail-small, handling-right, handling-wrong}
 
 node-of-requires : tie.Need-node-of-requires
-node-of-requires c κs = drawn (c .before .before .before .before .before .pre .3) (omega (arith, (c .before .before .before .before .before .good)))
+node-of-requires c κs = let s = c .before .before .before .before .before in drawn (s .pre .3) (omega (arith, s .good))
 
 mul-h : tie.Need-mul-h
 mul-h c = search needs
@@ -28,7 +28,11 @@ meets-requires : tie.Need-meets-requires
 meets-requires c κs = search needs
 
 spread-requires : tie.Need-spread-requires
-spread-requires c κs = let wrong = unfit-wrong (c .before .before .before .before .before .before .before .before .before .before .before .before .before .pre .0) _ (c .before .before .before .before .before .before .before .before .before .before .before .before .before .pre .1) (c .before .before .before .before .before .before .before .before .before .before .before .before .before .pre .2) (node-here (c .before .before .before .before .before .before .before .before .before .before .before .before .before .pre .3) (c .before .before .before .before .before .before .before .node-of .ensures)) ((c .before .before .before .before .meets .ensures) .not (c .before .before .before .if1 .taken)) in (progress-broken (c .before .before .before .before .before .before .before .before .before .before .before .before .before .pre .0) wrong, coming-wrong (c .before .before .before .before .before .before .before .before .before .before .before .before .before .pre .0) _ (c .before .before .before .before .before .before .before .before .before .before .before .before .before .pre .1) (c .before .before .before .before .before .before .before .before .before .before .before .before .before .pre .2) (node-here (c .before .before .before .before .before .before .before .before .before .before .before .before .before .pre .3) (c .before .before .before .before .before .before .before .node-of .ensures)) _ wrong)
+spread-requires c κs =
+    let s = c .before .before .before .before .before .before .before .before .before .before .before .before .before in
+    let node = node-here (s .pre .3) (c .before .before .before .before .before .before .before .node-of .ensures) in
+    let wrong = unfit-wrong (s .pre .0) _ (s .pre .1) (s .pre .2) node (c .before .before .before .before .meets .ensures .not (c .before .before .before .if1 .taken)) in
+    (progress-broken (s .pre .0) wrong, coming-wrong (s .pre .0) _ (s .pre .1) (s .pre .2) node _ wrong)
 
 same-length : tie.Need-same-length
 same-length c = search needs
@@ -40,22 +44,33 @@ same-length-3 : tie.Need-same-length-3
 same-length-3 c = search needs
 
 returns : tie.Need-returns
-returns c = handling-wrong (c .before .before .before .before .before .before .before .before .before .before .before .before .before .before .before .before .before .before .before .before .pre .0) _ (c .before .before .before .before .before .before .before .before .before .before .before .before .before .before .before .before .before .before .before .before .pre .1) (c .before .before .before .before .before .before .before .before .before .before .before .before .before .before .before .before .before .before .before .before .pre .2) (node-here (c .before .before .before .before .before .before .before .before .before .before .before .before .before .before .before .before .before .before .before .before .pre .3) (c .before .before .before .before .before .before .before .before .before .before .before .before .before .before .node-of .ensures)) (c .before .before .before .before .before .before .spread .ensures)
+returns c =
+    let s = c .before .before .before .before .before .before .before .before .before .before .before .before .before .before .before .before .before .before .before .before in
+    let node = node-here (s .pre .3) (c .before .before .before .before .before .before .before .before .before .before .before .before .before .before .node-of .ensures) in
+    handling-wrong (s .pre .0) _ (s .pre .1) (s .pre .2) node (c .before .before .before .before .before .before .spread .ensures)
 
-sub-h2 : tie.Need-sub-h2
-sub-h2 c = (c .before .before .meets .ensures) .yes (c .before .if1 .left) .enough
-
-add-h2 : tie.Need-add-h2
-add-h2 c = let x = height-small (c .before .before .before .before .before .before .before .before .before .before .before .before .pre .0) _ (c .before .before .before .before .before .before .before .before .before .before .before .before .pre .1) (c .before .before .before .before .before .before .before .before .before .before .before .before .pre .2) (node-here (c .before .before .before .before .before .before .before .before .before .before .before .before .pre .3) (c .before .before .before .before .before .before .node-of .ensures)) in let y = tail-small (c .before .before .before .before .before .before .before .before .before .before .before .before .pre .0) _ (c .before .before .before .before .before .before .before .before .before .before .before .before .pre .1) (c .before .before .before .before .before .before .before .before .before .before .before .before .pre .2) (node-here (c .before .before .before .before .before .before .before .before .before .before .before .before .pre .3) (c .before .before .before .before .before .before .node-of .ensures)) in omega (arith, (c .before .before .before .before .before .before .before .before .before .before .before .before .good))
+height-after-requires : tie.Need-height-after-requires
+height-after-requires c κs =
+    let s = c .before .before .before .before .before .before .before .before .before .before in
+    let node = node-here (s .pre .3) (c .before .before .before .before .node-of .ensures) in
+    change-room (s .pre .0) _ (s .pre .1) (s .pre .2) node (c .before .meets .ensures .yes (c .if1 .left) .enough) (omega (arith, s .good))
 
 sub-d2 : tie.Need-sub-d2
-sub-d2 c = (c .before .before .before .before .meets .ensures) .yes (c .before .before .before .if1 .left) .scoped
+sub-d2 c = c .before .before .before .meets .ensures .yes (c .before .before .if1 .left) .scoped
 
 add-d2 : tie.Need-add-d2
-add-d2 c = let x = depth-small (c .before .before .before .before .before .before .before .before .before .before .before .before .before .before .pre .0) _ (c .before .before .before .before .before .before .before .before .before .before .before .before .before .before .pre .1) (c .before .before .before .before .before .before .before .before .before .before .before .before .before .before .pre .2) (node-here (c .before .before .before .before .before .before .before .before .before .before .before .before .before .before .pre .3) (c .before .before .before .before .before .before .before .before .node-of .ensures)) in let y = tail-small (c .before .before .before .before .before .before .before .before .before .before .before .before .before .before .pre .0) _ (c .before .before .before .before .before .before .before .before .before .before .before .before .before .before .pre .1) (c .before .before .before .before .before .before .before .before .before .before .before .before .before .before .pre .2) (node-here (c .before .before .before .before .before .before .before .before .before .before .before .before .before .before .pre .3) (c .before .before .before .before .before .before .before .before .node-of .ensures)) in omega (arith, (c .before .before .before .before .before .before .before .before .before .before .before .before .before .before .good))
+add-d2 c =
+    let s = c .before .before .before .before .before .before .before .before .before .before .before .before .before in
+    let node = node-here (s .pre .3) (c .before .before .before .before .before .before .before .node-of .ensures) in
+    let x = depth-small (s .pre .0) _ (s .pre .1) (s .pre .2) node in
+    let y = tail-small (s .pre .0) _ (s .pre .1) (s .pre .2) node in
+    omega (arith, s .good)
 
 spread-requires-2 : tie.Need-spread-requires-2
-spread-requires-2 c κs = ((c .before .before .before .before .before .before .before .before .before .before .before .before .before .before .before .before .before .pre .0), coming-right (c .before .before .before .before .before .before .before .before .before .before .before .before .before .before .before .before .before .pre .0) _ (c .before .before .before .before .before .before .before .before .before .before .before .before .before .before .before .before .before .pre .1) (c .before .before .before .before .before .before .before .before .before .before .before .before .before .before .before .before .before .pre .2) (node-here (c .before .before .before .before .before .before .before .before .before .before .before .before .before .before .before .before .before .pre .3) (c .before .before .before .before .before .before .before .before .before .before .before .node-of .ensures)))
+spread-requires-2 c κs =
+    let s = c .before .before .before .before .before .before .before .before .before .before .before .before .before .before .before .before in
+    let node = node-here (s .pre .3) (c .before .before .before .before .before .before .before .before .before .before .node-of .ensures) in
+    rw (c .before .before .before .before .before .height-after .ensures) (s .pre .0, coming-right (s .pre .0) _ (s .pre .1) (s .pre .2) node)
 
 same-length-4 : tie.Need-same-length-4
 same-length-4 c = search needs
@@ -67,7 +82,11 @@ same-length-6 : tie.Need-same-length-6
 same-length-6 c = search needs
 
 returns-2 : tie.Need-returns-2
-returns-2 c = handling-right (c .before .before .before .before .before .before .before .before .before .before .before .before .before .before .before .before .before .before .before .before .before .before .before .before .pre .0) _ (c .before .before .before .before .before .before .before .before .before .before .before .before .before .before .before .before .before .before .before .before .before .before .before .before .pre .1) (c .before .before .before .before .before .before .before .before .before .before .before .before .before .before .before .before .before .before .before .before .before .before .before .before .pre .2) (node-here (c .before .before .before .before .before .before .before .before .before .before .before .before .before .before .before .before .before .before .before .before .before .before .before .before .pre .3) (c .before .before .before .before .before .before .before .before .before .before .before .before .before .before .before .before .before .before .node-of .ensures)) ((c .before .before .before .before .before .before .before .before .before .before .before .before .before .before .before .meets .ensures) .yes (c .before .before .before .before .before .before .before .before .before .before .before .before .before .before .if1 .left)) (c .before .before .before .before .before .before .spread2 .ensures)
+returns-2 c =
+    let s = c .before .before .before .before .before .before .before .before .before .before .before .before .before .before .before .before .before .before .before .before .before .before .before in
+    let node = node-here (s .pre .3) (c .before .before .before .before .before .before .before .before .before .before .before .before .before .before .before .before .before .node-of .ensures) in
+    let fit = c .before .before .before .before .before .before .before .before .before .before .before .before .before .before .meets .ensures .yes (c .before .before .before .before .before .before .before .before .before .before .before .before .before .if1 .left) in
+    handling-right (s .pre .0) _ (s .pre .1) (s .pre .2) node fit (rw (c .before .before .before .before .before .before .before .before .before .before .before .before .height-after .ensures) at (c .before .before .before .before .before .before .spread2 .ensures))
 
 pub handle-spec : {M : Type 1} → statement M
 handle-spec =
@@ -85,8 +104,7 @@ handle-spec =
     same-length-2
     same-length-3
     returns
-    sub-h2
-    add-h2
+    height-after-requires
     sub-d2
     add-d2
     spread-requires-2
