@@ -3,3 +3,4 @@ pub mod Opens
 pub mod Carries
 pub mod Takes
 pub mod Leaves
+pub mod Refused
