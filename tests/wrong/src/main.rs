@@ -4,14 +4,12 @@ mod batch;
 mod copy;
 mod coverage;
 mod edit;
+mod judge;
 mod prover;
 mod source;
+mod trials;
 
-use batch::{Batch, Placed, batches};
-use copy::Copy;
-use edit::Edit;
-use prover::{Log, about_form};
-use source::{Files, reached};
+use copy::{Copy, PARTS};
 use std::path::{Path, PathBuf};
 use std::process::ExitCode;
 use std::sync::Mutex;
@@ -70,14 +68,14 @@ fn jobs() -> usize {
 
 /// The crates that have wrong programs, those with more of them first.
 fn with_edits(top: &Path) -> Vec<String> {
+    let count = |name: &String| {
+        let folder = top.join("crates").join(name);
+        let edits = |part: &&str| copy::names(&folder.join(part)).len();
+        PARTS.iter().map(edits).sum::<usize>()
+    };
     let mut all: Vec<(usize, String)> = copy::names(&top.join("crates"))
         .into_iter()
-        .map(|name| {
-            (
-                copy::names(&top.join("crates").join(&name).join("wrong")).len(),
-                name,
-            )
-        })
+        .map(|name| (count(&name), name))
         .filter(|(n, _)| *n > 0)
         .collect();
     all.sort_by(|a, b| b.cmp(a));
@@ -88,10 +86,17 @@ impl Work {
     fn go_on(&self) {
         let copy = Copy::new(&self.top);
         loop {
-            let Some(name) = self.crates.lock().unwrap().pop() else {
+            let Some(named) = self.crates.lock().unwrap().pop() else {
                 return;
             };
-            self.try_crate(&copy, &name);
+            let (name, only) = match named.split_once('/') {
+                Some((name, edit)) => (name, Some(edit)),
+                None => (named.as_str(), None),
+            };
+            for (edit, answer) in trials::of_crate(&copy, name, only) {
+                self.say(name, &edit, answer);
+            }
+            copy.restore(name);
         }
     }
 
@@ -107,78 +112,6 @@ impl Work {
             }
         }
     }
-
-    fn try_crate(&self, copy: &Copy, name: &str) {
-        let files = copy.files(name);
-        let mut placed = Vec::new();
-        for (edit, text) in copy.edits(name) {
-            match Edit::parse(&edit, &text).and_then(|e| Placed::new(e, &files)) {
-                Ok(p) => placed.push(p),
-                Err(why) => self.say(name, &edit, Err(why)),
-            }
-        }
-        for batch in batches(&files, placed) {
-            self.try_batch(copy, name, &files, batch);
-        }
-        copy.restore(name);
-    }
-
-    /// Edits that do not pass together are tried again, each alone: one may keep all from the prover.
-    fn try_batch(&self, copy: &Copy, name: &str, files: &Files, batch: Batch) {
-        let log = copy.check(name, &batch.files);
-        let alone = batch.edits.len() == 1;
-        for placed in batch.edits {
-            let answer = judge(&log, files, &placed);
-            if answer.is_ok() || alone {
-                self.say(name, &placed.edit.name, answer);
-            } else {
-                self.try_batch(copy, name, files, Batch::alone(placed, files));
-            }
-        }
-    }
-}
-
-/// The error by which an edit is refused, or why it does not pass.
-fn judge(log: &Log, files: &Files, placed: &Placed) -> Result<String, String> {
-    if !log.refused() {
-        return Err(format!(
-            "not refused by the prover; the log: {}",
-            log.first_error()
-        ));
-    }
-    let mut error = log.first_error();
-    for of in &placed.edit.of {
-        if !log.unproved(of) {
-            return Err(format!("refused, but {of} is proved: {error}"));
-        }
-        error = error_below(log, files, placed, of)?;
-    }
-    Ok(error.to_string())
-}
-
-/// The error of a function in which the edit lies, and which is `of` or is called by it. An edit of a definition, or of a
-/// constant, lies in none.
-fn error_below<'a>(
-    log: &'a Log,
-    files: &Files,
-    placed: &Placed,
-    of: &str,
-) -> Result<&'a str, String> {
-    let reached = reached(files, of);
-    let first = log.first_error();
-    let mut why = format!("{of} calls nothing that is refused by itself: {first}");
-    for function in &placed.functions {
-        let own = match function {
-            None => Some(first),
-            Some(f) => log.own_error(f).filter(|_| reached.contains(f)),
-        };
-        match own {
-            Some(error) if about_form(error) => why = format!("refused for its form: {error}"),
-            Some(error) => return Ok(error),
-            None => {}
-        }
-    }
-    Err(why)
 }
 
 fn cut(text: &str) -> String {
