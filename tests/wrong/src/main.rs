@@ -15,10 +15,16 @@ use std::process::ExitCode;
 use std::sync::Mutex;
 use std::sync::atomic::{AtomicUsize, Ordering};
 
+/// A crate, and those of its edits that are tried; all where none is named.
+struct Wanted {
+    name: String,
+    only: Vec<String>,
+}
+
 /// What is shared by all that work: the crates that nobody has taken yet, and the counts.
 struct Work {
     top: PathBuf,
-    crates: Mutex<Vec<String>>,
+    crates: Mutex<Vec<Wanted>>,
     refused: AtomicUsize,
     failed: AtomicUsize,
 }
@@ -36,9 +42,9 @@ fn main() -> ExitCode {
     };
     missing.iter().for_each(|line| println!("FAILED {line}"));
     let mut crates = if named.is_empty() {
-        with_edits(&top)
+        wanted(&with_edits(&top))
     } else {
-        named
+        wanted(&named)
     };
     crates.reverse();
     let work = Work {
@@ -59,6 +65,25 @@ fn main() -> ExitCode {
     } else {
         ExitCode::FAILURE
     }
+}
+
+/// The crates that are named, as CRATE or CRATE/EDIT, each once.
+fn wanted(named: &[String]) -> Vec<Wanted> {
+    let mut all: Vec<Wanted> = Vec::new();
+    for word in named {
+        let (name, edit) = match word.split_once('/') {
+            Some((name, edit)) => (name, Some(edit.to_string())),
+            None => (word.as_str(), None),
+        };
+        match all.iter_mut().find(|wanted| wanted.name == name) {
+            Some(there) => there.only.extend(edit),
+            None => all.push(Wanted {
+                name: name.to_string(),
+                only: edit.into_iter().collect(),
+            }),
+        }
+    }
+    all
 }
 
 fn jobs() -> usize {
@@ -86,17 +111,13 @@ impl Work {
     fn go_on(&self) {
         let copy = Copy::new(&self.top);
         loop {
-            let Some(named) = self.crates.lock().unwrap().pop() else {
+            let Some(Wanted { name, only }) = self.crates.lock().unwrap().pop() else {
                 return;
             };
-            let (name, only) = match named.split_once('/') {
-                Some((name, edit)) => (name, Some(edit)),
-                None => (named.as_str(), None),
-            };
-            for (edit, answer) in trials::of_crate(&copy, name, only) {
-                self.say(name, &edit, answer);
+            for (edit, answer) in trials::of_crate(&copy, &name, &only) {
+                self.say(&name, &edit, answer);
             }
-            copy.restore(name);
+            copy.restore(&name);
         }
     }
 
@@ -116,4 +137,20 @@ impl Work {
 
 fn cut(text: &str) -> String {
     text.chars().take(240).collect()
+}
+
+#[cfg(test)]
+mod tests {
+    use super::*;
+
+    #[test]
+    fn edits_of_one_crate_are_wanted_together() {
+        let words = ["a/x", "b", "a/y"].map(str::to_string);
+        let all = wanted(&words);
+        let said: Vec<_> = all
+            .iter()
+            .map(|w| (w.name.as_str(), w.only.len()))
+            .collect();
+        assert_eq!(said, [("a", 2), ("b", 0)]);
+    }
 }

@@ -21,8 +21,8 @@ struct Trials<'a> {
     controls: BTreeMap<String, Controlled>,
 }
 
-/// Tries the edits of a crate, or one of them; the answers by the edits' names.
-pub fn of_crate(copy: &Copy, name: &str, only: Option<&str>) -> Vec<(String, Answer)> {
+/// Tries the edits of a crate, or only those that are named; the answers by the edits' names.
+pub fn of_crate(copy: &Copy, name: &str, only: &[String]) -> Vec<(String, Answer)> {
     let mut trials = Trials {
         copy,
         name,
@@ -33,7 +33,7 @@ pub fn of_crate(copy: &Copy, name: &str, only: Option<&str>) -> Vec<(String, Ans
     let walked = copy.walked(name);
     let mut placed = Vec::new();
     for (edit, text) in copy.edits(name) {
-        if only.is_some_and(|one| one != edit) {
+        if !only.is_empty() && !only.contains(&edit) {
             continue;
         }
         match Edit::parse(&edit, &text).and_then(|e| Placed::new(e, &trials.files)) {
