@@ -6,6 +6,7 @@ use crate::edit::Edit;
 use crate::judge::{Controlled, beside_control, control, wrong};
 use crate::prover::form;
 use crate::source::Files;
+use std::cell::OnceCell;
 use std::collections::BTreeMap;
 
 /// The error by which an edit is refused, or why it does not pass.
@@ -15,6 +16,8 @@ struct Trials<'a> {
     copy: &'a Copy,
     name: &'a str,
     files: Files,
+    /// The right program, compiled; made where it is needed.
+    right: OnceCell<String>,
     /// What came of each edit, by its name.
     answers: BTreeMap<String, Answer>,
     /// What came of each control, by the name of its edit.
@@ -27,6 +30,7 @@ pub fn of_crate(copy: &Copy, name: &str, only: &[String]) -> Vec<(String, Answer
         copy,
         name,
         files: copy.files(name),
+        right: OnceCell::new(),
         answers: BTreeMap::new(),
         controls: BTreeMap::new(),
     };
@@ -64,7 +68,8 @@ impl Trials<'_> {
             return;
         };
         let changed = Batch::files_with(placed, &self.files);
-        let right = form(&self.copy.mir(self.name, &self.files), function);
+        let compiled = || self.copy.mir(self.name, &self.files);
+        let right = form(self.right.get_or_init(compiled), function);
         let wrong = form(&self.copy.mir(self.name, &changed), function);
         if right.is_none() || right != wrong {
             let why = format!("{function} is proved by a walk by hand, and it has no control");
