@@ -31,8 +31,7 @@ enum {
     RL_VM_STARTS = 256,
     RL_VM_GLOBALS = 512,
     RL_VM_CELLS = 8192,
-    RL_VM_MEMO = 4096,
-    RL_VM_FRAMES = 315
+    RL_VM_MEMO = 4096
 };
 
 /* Loads the image and judges it by the stack check. Returns

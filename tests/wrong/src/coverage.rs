@@ -1,6 +1,6 @@
 //! Whether every public function has two wrong programs, in must-fail/ or wrong/, and docs/GUARANTEE.md names each.
 
-use crate::copy::{files, names};
+use crate::copy::{PARTS, files, names};
 use crate::edit::Edit;
 use crate::source::public;
 use std::fs;
@@ -15,7 +15,7 @@ pub fn missing(top: &Path) -> Vec<String> {
     let mut lines = Vec::new();
     for name in names(&top.join("crates")) {
         let folder = top.join("crates").join(&name);
-        let edits: Vec<Edit> = ["must-fail", "wrong"]
+        let edits: Vec<Edit> = PARTS
             .iter()
             .flat_map(|part| edits(&folder.join(part)))
             .collect();

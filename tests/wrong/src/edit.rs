@@ -3,17 +3,20 @@
 use crate::source::{Files, function_at, place_of};
 
 /// One text of one file, and what stands there instead.
+#[derive(Clone)]
 pub struct Change {
     pub file: String,
     /// The function in which the text stands once, where it stands more than once in the file.
     pub within: Option<String>,
     pub old: String,
     pub new: String,
+    /// What stands there in a right program of the same changed shape.
+    pub control: Option<String>,
 }
 
 pub struct Edit {
     pub name: String,
-    /// The functions that it is a wrong program of.
+    /// The functions that it is a wrong program of; none where it is a wrong definition.
     pub of: Vec<String>,
     pub changes: Vec<Change>,
 }
@@ -43,11 +46,12 @@ impl Edit {
                     within: within.clone(),
                     old: old.take().ok_or("a line 'new:' without a line 'old:'")?,
                     new: text.strip_prefix(' ').unwrap_or(text).to_string(),
+                    control: None,
                 });
+            } else if let Some(text) = line.strip_prefix("control:") {
+                let change: &mut Change = changes.last_mut().ok_or("a 'control:' before 'new:'")?;
+                change.control = Some(text.strip_prefix(' ').unwrap_or(text).to_string());
             }
-        }
-        if of.is_empty() {
-            return Err("it has no line 'of:'".to_string());
         }
         if changes.is_empty() || old.is_some() {
             return Err("it has no pair of lines 'old:' and 'new:', or half a pair".to_string());
@@ -55,8 +59,35 @@ impl Edit {
         if changes.iter().any(Change::is_of_a_contract) {
             return Err("it changes a contract".to_string());
         }
+        if changes.iter().any(Change::has_an_idle_control) {
+            return Err("its control is the right program itself, or the wrong one".to_string());
+        }
+        let of_code = |change: &Change| change.file.starts_with("src/");
+        if of.is_empty() && changes.iter().any(of_code) {
+            return Err("it changes code, and has no line 'of:'".to_string());
+        }
         let name = name.to_string();
         Ok(Edit { name, of, changes })
+    }
+
+    /// The right program of the same changed shape, where the edit has one: the places that have a control are
+    /// changed to it, and no others.
+    pub fn control(&self) -> Option<Edit> {
+        let controlled = |change: &Change| {
+            let new = change.control.clone()?;
+            let control = None;
+            Some(Change {
+                new,
+                control,
+                ..change.clone()
+            })
+        };
+        let changes: Vec<Change> = self.changes.iter().filter_map(controlled).collect();
+        (!changes.is_empty()).then(|| Edit {
+            name: self.name.clone(),
+            of: self.of.clone(),
+            changes,
+        })
     }
 
     /// Makes the edit. The answer is the functions in which it lies; a place outside every function is none.
@@ -72,7 +103,15 @@ impl Change {
     /// Edits share a check because what a function is proved from, the contracts of what it calls, stays as it is.
     fn is_of_a_contract(&self) -> bool {
         let named = |text: &str| text.contains("ensures") || text.contains("requires");
-        self.file.starts_with("src/") && (named(&self.old) || named(&self.new))
+        let control = self.control.as_deref().unwrap_or("");
+        let texts = [self.old.as_str(), self.new.as_str(), control];
+        self.file.starts_with("src/") && texts.into_iter().any(named)
+    }
+
+    /// A control that is a text of the other two would show nothing.
+    fn has_an_idle_control(&self) -> bool {
+        let idle = |control: &String| *control == self.old || *control == self.new;
+        self.control.as_ref().is_some_and(idle)
     }
 
     fn make(&self, files: &mut Files) -> Result<Option<String>, String> {
@@ -139,8 +178,32 @@ mod tests {
     }
 
     #[test]
+    fn may_have_a_control() {
+        let text = EDIT.to_string() + "control:     a + 1 + 0\nold: fn f\nnew: fn f2\n";
+        let edit = Edit::parse("e", &text).unwrap();
+        let control = edit.control().unwrap();
+        assert_eq!((control.changes.len(), &control.of), (1, &edit.of));
+        let mut files = files("fn f(a: u8) -> u8\n{\n    a + 1\n}\n");
+        assert_eq!(control.make(&mut files).unwrap(), [Some("f".to_string())]);
+        assert_eq!(
+            files["src/lib.rt"],
+            "fn f(a: u8) -> u8\n{\n    a + 1 + 0\n}\n"
+        );
+        assert!(Edit::parse("e", EDIT).unwrap().control().is_none());
+    }
+
+    #[test]
+    fn wants_a_control_that_is_neither_program() {
+        for text in ["    a + 1", "    a + 2", "    ensures { x }"] {
+            assert!(Edit::parse("e", &format!("{EDIT}control: {text}\n")).is_err());
+        }
+        assert!(Edit::parse("e", "of: f\ncontrol: b\n").is_err());
+    }
+
+    #[test]
     fn wants_functions_and_a_pair() {
         assert!(Edit::parse("e", "file: src/lib.rt\nold: a\nnew: b\n").is_err());
+        assert!(Edit::parse("e", "file: specs/A.antt\nold: a\nnew: b\n").is_ok());
         assert!(Edit::parse("e", "of: f\nfile: src/lib.rt\nold: a\n").is_err());
         assert!(Edit::parse("e", "of: f\nnew: b\n").is_err());
         assert!(Edit::parse("e", &EDIT.replace("a + 2", "ensures { x }")).is_err());

@@ -4,23 +4,27 @@ mod batch;
 mod copy;
 mod coverage;
 mod edit;
+mod judge;
 mod prover;
 mod source;
+mod trials;
 
-use batch::{Batch, Placed, batches};
-use copy::Copy;
-use edit::Edit;
-use prover::{Log, about_form};
-use source::{Files, reached};
+use copy::{Copy, PARTS};
 use std::path::{Path, PathBuf};
 use std::process::ExitCode;
 use std::sync::Mutex;
 use std::sync::atomic::{AtomicUsize, Ordering};
 
+/// A crate, and those of its edits that are tried; all where none is named.
+struct Wanted {
+    name: String,
+    only: Vec<String>,
+}
+
 /// What is shared by all that work: the crates that nobody has taken yet, and the counts.
 struct Work {
     top: PathBuf,
-    crates: Mutex<Vec<String>>,
+    crates: Mutex<Vec<Wanted>>,
     refused: AtomicUsize,
     failed: AtomicUsize,
 }
@@ -38,9 +42,9 @@ fn main() -> ExitCode {
     };
     missing.iter().for_each(|line| println!("FAILED {line}"));
     let mut crates = if named.is_empty() {
-        with_edits(&top)
+        wanted(&with_edits(&top))
     } else {
-        named
+        wanted(&named)
     };
     crates.reverse();
     let work = Work {
@@ -63,6 +67,25 @@ fn main() -> ExitCode {
     }
 }
 
+/// The crates that are named, as CRATE or CRATE/EDIT, each once.
+fn wanted(named: &[String]) -> Vec<Wanted> {
+    let mut all: Vec<Wanted> = Vec::new();
+    for word in named {
+        let (name, edit) = match word.split_once('/') {
+            Some((name, edit)) => (name, Some(edit.to_string())),
+            None => (word.as_str(), None),
+        };
+        match all.iter_mut().find(|wanted| wanted.name == name) {
+            Some(there) => there.only.extend(edit),
+            None => all.push(Wanted {
+                name: name.to_string(),
+                only: edit.into_iter().collect(),
+            }),
+        }
+    }
+    all
+}
+
 fn jobs() -> usize {
     let set = std::env::var("RT_JOBS").ok().and_then(|n| n.parse().ok());
     set.unwrap_or_else(|| std::thread::available_parallelism().map_or(1, |n| n.get()))
@@ -70,14 +93,14 @@ fn jobs() -> usize {
 
 /// The crates that have wrong programs, those with more of them first.
 fn with_edits(top: &Path) -> Vec<String> {
+    let count = |name: &String| {
+        let folder = top.join("crates").join(name);
+        let edits = |part: &&str| copy::names(&folder.join(part)).len();
+        PARTS.iter().map(edits).sum::<usize>()
+    };
     let mut all: Vec<(usize, String)> = copy::names(&top.join("crates"))
         .into_iter()
-        .map(|name| {
-            (
-                copy::names(&top.join("crates").join(&name).join("wrong")).len(),
-                name,
-            )
-        })
+        .map(|name| (count(&name), name))
         .filter(|(n, _)| *n > 0)
         .collect();
     all.sort_by(|a, b| b.cmp(a));
@@ -88,10 +111,13 @@ impl Work {
     fn go_on(&self) {
         let copy = Copy::new(&self.top);
         loop {
-            let Some(name) = self.crates.lock().unwrap().pop() else {
+            let Some(Wanted { name, only }) = self.crates.lock().unwrap().pop() else {
                 return;
             };
-            self.try_crate(&copy, &name);
+            for (edit, answer) in trials::of_crate(&copy, &name, &only) {
+                self.say(&name, &edit, answer);
+            }
+            copy.restore(&name);
         }
     }
 
@@ -107,80 +133,24 @@ impl Work {
             }
         }
     }
-
-    fn try_crate(&self, copy: &Copy, name: &str) {
-        let files = copy.files(name);
-        let mut placed = Vec::new();
-        for (edit, text) in copy.edits(name) {
-            match Edit::parse(&edit, &text).and_then(|e| Placed::new(e, &files)) {
-                Ok(p) => placed.push(p),
-                Err(why) => self.say(name, &edit, Err(why)),
-            }
-        }
-        for batch in batches(&files, placed) {
-            self.try_batch(copy, name, &files, batch);
-        }
-        copy.restore(name);
-    }
-
-    /// Edits that do not pass together are tried again, each alone: one may keep all from the prover.
-    fn try_batch(&self, copy: &Copy, name: &str, files: &Files, batch: Batch) {
-        let log = copy.check(name, &batch.files);
-        let alone = batch.edits.len() == 1;
-        for placed in batch.edits {
-            let answer = judge(&log, files, &placed);
-            if answer.is_ok() || alone {
-                self.say(name, &placed.edit.name, answer);
-            } else {
-                self.try_batch(copy, name, files, Batch::alone(placed, files));
-            }
-        }
-    }
-}
-
-/// The error by which an edit is refused, or why it does not pass.
-fn judge(log: &Log, files: &Files, placed: &Placed) -> Result<String, String> {
-    if !log.refused() {
-        return Err(format!(
-            "not refused by the prover; the log: {}",
-            log.first_error()
-        ));
-    }
-    let mut error = log.first_error();
-    for of in &placed.edit.of {
-        if !log.unproved(of) {
-            return Err(format!("refused, but {of} is proved: {error}"));
-        }
-        error = error_below(log, files, placed, of)?;
-    }
-    Ok(error.to_string())
-}
-
-/// The error of a function in which the edit lies, and which is `of` or is called by it. An edit of a definition, or of a
-/// constant, lies in none.
-fn error_below<'a>(
-    log: &'a Log,
-    files: &Files,
-    placed: &Placed,
-    of: &str,
-) -> Result<&'a str, String> {
-    let reached = reached(files, of);
-    let first = log.first_error();
-    let mut why = format!("{of} calls nothing that is refused by itself: {first}");
-    for function in &placed.functions {
-        let own = match function {
-            None => Some(first),
-            Some(f) => log.own_error(f).filter(|_| reached.contains(f)),
-        };
-        match own {
-            Some(error) if about_form(error) => why = format!("refused for its form: {error}"),
-            Some(error) => return Ok(error),
-            None => {}
-        }
-    }
-    Err(why)
 }
 
 fn cut(text: &str) -> String {
     text.chars().take(240).collect()
+}
+
+#[cfg(test)]
+mod tests {
+    use super::*;
+
+    #[test]
+    fn edits_of_one_crate_are_wanted_together() {
+        let words = ["a/x", "b", "a/y"].map(str::to_string);
+        let all = wanted(&words);
+        let said: Vec<_> = all
+            .iter()
+            .map(|w| (w.name.as_str(), w.only.len()))
+            .collect();
+        assert_eq!(said, [("a", 2), ("b", 0)]);
+    }
 }

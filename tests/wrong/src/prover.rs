@@ -9,6 +9,11 @@ impl Log {
         self.0.lines().any(|line| line == "logic=not-proved")
     }
 
+    /// Whether the code reached the prover, and what is said of this function.
+    pub fn judged(&self, name: &str) -> bool {
+        self.0.lines().any(|line| line.starts_with("logic=")) && self.verdict(name).is_some()
+    }
+
     /// What is said of a function: `proved`, or why not.
     fn verdict(&self, name: &str) -> Option<&str> {
         let said = |line: &'_ str| -> Option<usize> {
@@ -52,6 +57,37 @@ impl Log {
     }
 }
 
+/// Where an error is: the file of the proof, the line and the place in it; or the fact that was not found.
+pub fn site(error: &str) -> &str {
+    error.split(": error: ").next().unwrap_or(error)
+}
+
+/// The form of a function in the compiled program that `rt mir` prints: its text without the values of whole numbers.
+/// None where it has no such function.
+pub fn form(mir: &str, name: &str) -> Option<String> {
+    const DEF: &str = "(fn-def \"";
+    let parts = mir.split(DEF).skip(1);
+    let of_it = |part: &&str| {
+        let path = part.split('"').next().unwrap_or("");
+        path.rsplit("::").next() == Some(name)
+    };
+    let forms: Vec<String> = parts.filter(of_it).map(without_numbers).collect();
+    (!forms.is_empty()).then(|| forms.join("\n"))
+}
+
+/// A number is written `(int WIDTH VALUE)`, with `(..)` about a value below zero.
+fn without_numbers(text: &str) -> String {
+    const INT: &str = "(int ";
+    let mut parts = text.split(INT);
+    let mut out = parts.next().unwrap_or("").to_string();
+    for part in parts {
+        let end = part.find(')').unwrap_or(part.len());
+        let width = part[..end].split(' ').next().unwrap_or("");
+        out += &format!("{INT}{width} _{}", &part[end..]);
+    }
+    out
+}
+
 /// Whether an error is about the form of a proof, which names a part that the code has no longer.
 pub fn about_form(error: &str) -> bool {
     error.contains("has no `") || error.contains("has no field `")
@@ -85,6 +121,35 @@ mod tests {
         assert!(log().own_error("again").unwrap().contains("`4`"));
         assert_eq!(log().own_error("top"), None);
         assert_eq!(log().own_error("right"), None);
+    }
+
+    #[test]
+    fn errors_have_a_site() {
+        let log = log();
+        let place = "low/Proof.antt:9:1";
+        assert_eq!(site(log.own_error("low").unwrap()), place);
+        let plain = log.own_error("plain").unwrap();
+        assert_eq!(site(plain), plain);
+    }
+
+    #[test]
+    fn a_function_is_judged_where_the_prover_names_it() {
+        assert!(log().judged("low") && log().judged("right"));
+        assert!(!log().judged("absent"));
+        assert!(!Log("fn x::low: proved\nerror: expected `;`".to_string()).judged("low"));
+    }
+
+    #[test]
+    fn a_form_is_without_its_numbers() {
+        let mir = |n: &str, length: &str| {
+            let f = format!("(lcons (fn-def \"m::f\" (op2 (copy 1) (int 64 {n}))) ");
+            f + &format!("(lcons (fn-def \"m::g\" (tyArray (lenLit {length}))) lnil))")
+        };
+        assert_eq!(form(&mir("1", "64"), "f"), form(&mir("2", "64"), "f"));
+        assert_ne!(form(&mir("1", "64"), "g"), form(&mir("1", "32"), "g"));
+        let other = mir("1", "64").replace("copy 1", "copy 2");
+        assert_ne!(form(&mir("1", "64"), "f"), form(&other, "f"));
+        assert_eq!(form(&mir("1", "64"), "h"), None);
     }
 
     #[test]
