@@ -15,7 +15,7 @@ use Rattle.definition.specs.Shape.{Alg}
 use Rattle.definition.specs.State.{Frame, moved, State, Outcome, next, done, Act, goOn, fault, enter, leave}
 use Rattle.definition.specs.Step.{bounded, keptStarts, keptLocals, left, finishCall, went, entered, carry, begin, budgeted, within, stepIn, step}
 use Rattle.definition.specs.Run.{Run, IsRun, at}
-use Rattle.definition.specs.Callers.{Fresh}
+use Rattle.definition.specs.Callers.{depth, Fresh}
 use Rattle.definition.specs.Claims.{LowerKept, LowerSlots}
 use Rattle.definition.proofs.OwnLocals.{AllGe, Standing, Owns, owns}
 
@@ -90,7 +90,7 @@ module _ {Val Cells : Type 0} (A : Alg Val Cells) where
   Result n s (next t) = Laid t × LowerKept A n s t
   Result n s (done e) = Unit {0}
 
-  module _ (s : State Val Cells) (f : Frame) (fs : List Frame) (st₀ : List ℕ) (L : Layer f (length (s .locals)) (s .scopeStarts) st₀) (U : Under fs f st₀) where
+  module _ (s : State Val Cells) (f : Frame) (fs : List Frame) (st₀ : List ℕ) (L : Layer f (length (s .locals)) (s .scopeStarts) st₀) (U : Under fs f st₀) (F : s .frames ≡ f ∷ fs) where
     abbrev lb : ℕ
     lb = f .localBase
 
@@ -100,11 +100,11 @@ module _ {Val Cells : Type 0} (A : Alg Val Cells) where
     bounded-result false t p h = tt
 
     -- the frame goes
-    leaves : (b : Bool) (gs : List Frame) (v : Val) (r : List Val) (n p : ℕ) → Under gs f st₀ → Result lb s (finishCall A b (left A s f gs v r n) f gs v p)
+    leaves : (b : Bool) (gs : List Frame) (v : Val) (r : List Val) (n p : ℕ) → fs ≡ gs → Under gs f st₀ → Result lb s (finishCall A b (left A s f gs v r n) f gs v p)
     unfolding finishCall
-    leaves false gs v r n p u = tt
-    leaves true [] v r n p u = tt
-    leaves true (g ∷ gs) v r n p (ws, st₁, e, k, l, u) = (
+    leaves false gs v r n p d u = tt
+    leaves true [] v r n p d u = tt
+    leaves true (g ∷ gs) v r n p d (ws, st₁, e, k, l, u) = (
       record {
         top = g;
         rest = gs;
@@ -113,9 +113,12 @@ module _ {Val Cells : Type 0} (A : Alg Val Cells) where
         layer = rw (es, el, length-take-le lb (s .locals) (L .inside)) l;
         under = u;
       },
-      record { before = L .inside; after = still-there lb (s .locals) _ (L .inside) cut; slots = cut },
+      record { before = L .inside; after = still-there lb (s .locals) _ (L .inside) cut; slots = cut; above = λ x. absurd (shorter x) },
     )
       where
+        shorter : suc (length gs) ≡ suc (depth s) → ⊥
+        shorter x = omega (arith, ap length F, ap length d)
+
         starts : s .scopeStarts ≡ L .scopes ++ lb ∷ ws
         starts = L .starts ∙ ap (λ (y : List ℕ). L .scopes ++ y) e
 
@@ -143,9 +146,12 @@ module _ {Val Cells : Type 0} (A : Alg Val Cells) where
             layer = record { inside = there; scopes = h .scopes; starts = h .starts; above = h .above; bottom = L .bottom };
             under = under-moved fs f q st₀ U;
           },
-          record { before = L .inside; after = there; slots = h .locals },
+          record { before = L .inside; after = there; slots = h .locals; above = λ x. absurd (as-many x) },
         )
       where
+        as-many : suc (length fs) ≡ suc (depth s) → ⊥
+        as-many x = omega (arith, ap length F)
+
         there : lb ≤ length ls
         there = still-there lb (s .locals) ls (L .inside) (h .locals)
     carries i (fault n) h = tt
@@ -166,9 +172,9 @@ module _ {Val Cells : Type 0} (A : Alg Val Cells) where
               under-moved fs f q st₀ U,
             );
           },
-          record { before = L .inside; after = simp length-append (omega (arith, L .inside)); slots = take-append-le lb (s .locals) own (L .inside) },
+          record { before = L .inside; after = simp length-append (omega (arith, L .inside)); slots = take-append-le lb (s .locals) own (L .inside); above = λ x g gs y. subst (λ (z : Frame). z .localBase ≡ length (s .locals)) (head-eq-of-cons-eq y) refl },
         )
-    carries i (leave v r) h = leaves _ fs v r _ _ U
+    carries i (leave v r) h = leaves _ fs v r _ _ refl U
 
     module _ (im : Image) where
       begins : (x : Option Instr) → Result lb s (begin A im s f fs x)
@@ -184,14 +190,14 @@ module _ {Val Cells : Type 0} (A : Alg Val Cells) where
       inside : (budget : ℕ) (b : Bool) → Result lb s (within A b im budget s f fs)
       unfolding within
       inside budget true = paid _
-      inside budget false = leaves _ fs (A .null) _ _ _ U
+      inside budget false = leaves _ fs (A .null) _ _ _ refl U
 
   module _ (im : Image) (budget : ℕ) where
     steps : (s : State Val Cells) (l : Laid s) → Result (l .top .localBase) s (step A im budget s)
     unfolding step stepIn
     steps s l =
         subst⁻¹ (λ (fs : List Frame). Result (l .top .localBase) s (stepIn A im budget s fs)) (l .frames)
-        (inside s (l .top) (l .rest) (l .floor) (l .layer) (l .under) im budget _)
+        (inside s (l .top) (l .rest) (l .floor) (l .layer) (l .under) (l .frames) im budget _)
 
     module _ (start : State Val Cells) (F : Fresh start) (r : Run Val Cells) (R : IsRun A im budget start r) where
       laid : (k : ℕ) → k ≤ R .last → Laid (at A (r .states) k)
