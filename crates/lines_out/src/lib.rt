@@ -96,3 +96,14 @@ pub fn put_refused(out: &mut [u8], number: usize, line: usize) -> usize
     let d = put_decimal(out, c, line);
     put(out, d, b"\n")
 }
+
+// Writes the first `size` bytes of `line` to standard output. Where the system does not take them, that is said on standard error, behind the
+// program's name.
+pub fn write_line(name: &[u8], line: &[u8], size: usize)
+    requires { ⌜ size ≤ length (now line) ⌝ }
+{
+    if !io::write_all(libc::STDOUT_FILENO, &line[..size]) {
+        io::write_all(libc::STDERR_FILENO, name);
+        io::write_all(libc::STDERR_FILENO, b": the line could not be written\n");
+    }
+}
