@@ -57,13 +57,10 @@ nothing out at h =
     }
 
 -- a whole word copied
-pub copied : (out out′ w : List ℕ) (at i : ℕ) → at + length w ≤ length out → i ≡ length w → out′ ≡ paste out at w i → Puts out at w out′ (at + i)
-copied out out′ w at i h e p =
-    record {
-      to-is = omega arith;
-      within = omega arith;
-      buffer = p ∙ ap (λ (l : List ℕ). take at out ++ l ++ drop (at + i) out) (ap (λ (k : ℕ). take k w) e ∙ take-length w);
-    }
+pub copied :
+    (out out′ w : List ℕ) (at i : ℕ) → i ≡ length w → out′ ≡ paste out at w i → out′ ≡ take at out ++ w ++ drop (at + length w) out
+copied out out′ w at i e p =
+    p ∙ ap (λ (k : ℕ). paste out at w k) e ∙ ap (λ (l : List ℕ). take at out ++ l ++ drop (at + length w) out) (take-length w)
 
 -- one byte more of a word copied
 pub copy-next :

@@ -8,7 +8,7 @@ use Rattle.lines_out.proofs.write_line.Tie as tie
 slice-aggregate-write-all : tie.Need-slice-aggregate-write-all
 slice-aggregate-write-all c =
     let start = c .before .before .before in
-    sym (length-take-le (start .args .size) (start .args .line .now) (start .pre))
+    sym (length-take-le _ _ (start .pre))
 
 write-all-requires : tie.Need-write-all-requires
 write-all-requires c κs = search needs
