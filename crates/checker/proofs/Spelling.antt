@@ -1,12 +1,15 @@
 -- From the pieces to the line, and from the answer to the definition's.
 use mathlib.Core.Path.{_≡_, subst}
+use mathlib.Core.Logic.{_↔_}
 use mathlib.Core.Bool.{false, _||_}
 use mathlib.Core.List.{List, [], _∷_}
-use Prim.Native.Nat.{ℕ, _+_, _≤_}
+use Prim.Native.Nat.{ℕ, _+_, _≤_, _<_}
 use native.Mathlib.Omega.{arith}
 use borrow.Author.Tests.{le-ltb}
 use lib.Dec.{ltb}
 use lib.ListN.{length, take}
+use Rattle.definition.specs.Lines.{Load}
+use Rattle.definition.specs.Answers as definition
 use Rattle.definition.specs.Runner.{ascii, decimal, padded, words}
 use Rattle.image.specs.Answer.{numberOf, short}
 use Rattle.image_records.specs.declared.Reason as refusal
@@ -17,6 +20,8 @@ use Rattle.vm_check.specs.Check.{answerOf, Checks}
 use Rattle.vm_check.specs.declared.CheckAnswer.{CheckAnswer}
 use Rattle.vm_check.specs.declared.CheckAnswer.the-variants.{Refused, Pass, Fault}
 use Rattle.lines_out.specs.Puts.{Puts}
+use Rattle.image_in.specs.Read.{ReadOf}
+use Rattle.image_in.proofs.Parts.{same-load}
 use Rattle.checker.specs.Line.{checkerLine, Says}
 
 module _ {out out′ : List ℕ} {to : ℕ} (a : CheckAnswer) where
@@ -53,5 +58,15 @@ not-short w b e k p t h d o =
 
 pub says :
     (bytes : List ℕ) (w : CheckWork) (a : CheckAnswer) {out out′ : List ℕ} {to : ℕ} → Checks bytes w a → checkShort w ≡ false
-    → Puts out 0 (checkerLine (answerOf a)) out′ to → Says bytes (take to out′) × (to ≤ length out′)
-says bytes w a k s p = (record { answer = answerOf a; decided = k .decides s; line-is = p .text }, p .within)
+    → Puts out 0 (checkerLine (answerOf a)) out′ to → Says bytes out out′ to
+says bytes w a k s p = record { answer = answerOf a; decided = k .decides s; line = p }
+
+-- the line of what was read of an input is the input's
+pub of-input :
+    (read input out out′ : List ℕ) (n to : ℕ) → 65536 < length read → n ≤ length read → Says (take n read) out out′ to → ReadOf read n input → Says input out out′ to
+of-input read input out out′ n to h l s r =
+    record {
+      answer = s .answer;
+      decided = subst (λ (loaded : Load). (a : definition.CheckAnswer) → (s .answer ≡ a) ↔ definition.AnswersLoaded loaded a) (same-load read input n h l r) (s .decided);
+      line = s .line;
+    }

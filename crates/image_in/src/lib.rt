@@ -1,7 +1,15 @@
 // Reading for the programs: an image on standard input, into a buffer.
 ghost use mathlib.Core.Path.{_≡_};
+ghost use Prim.Native.Nat.{_-_, _≤_};
 ghost use lib.ListN.{length};
-ghost use Rattle.image_in.specs.Read.{Counted, withoutMore};
+ghost use Rattle.libc.specs.Io.{Moved};
+ghost use Rattle.image_in.specs.Read.{advanced, Over, inputOf};
+
+// Where reading stands: after so many bytes, the last read having answered this (1 where the buffer is full).
+pub struct Reading {
+    pub at: usize,
+    pub last: isize,
+}
 
 // How many bytes were read; or the input could not be read.
 pub enum Input {
@@ -9,30 +17,53 @@ pub enum Input {
     Failed,
 }
 
-// What was read where a read that answered `got` brought nothing after `at` bytes: it failed where the answer is negative, else the input ended.
-fn without_more(got: isize, at: usize) -> Input
-    ensures { λ r. ⌜ r ≡ withoutMore got at ⌝ }
-    ensures { λ r. ⌜ Counted r at ⌝ }
+// What reading came to. A read that failed is no end of the input.
+pub fn input_of(r: Reading) -> Input
+    ensures { λ i. ⌜ i ≡ inputOf (r .at) (r .last) ⌝ }
 {
-    if got >= 0 {
-        Input::Bytes(at)
+    if r.last >= 0 {
+        Input::Bytes(r.at)
     } else {
         Input::Failed
     }
 }
 
-// Reads standard input until `buf` is full or the input ends. A read that fails is no end.
-pub fn read_input(buf: &mut [u8]) -> Input
-    ensures { λ r. ⌜ Counted r (length (now (buf .exit))) ⌝ }
+// One read, into `buf` from `at` on.
+fn read_part(buf: &mut [u8], at: usize) -> Reading
+    requires { ⌜ at ≤ length (now buf) ⌝ }
+    ensures { λ r. ⌜ (r .at ≡ advanced at (r .last)) × Moved (length (now (buf .entry)) - at) (r .last) ⌝ }
+{
+    let got = libc::read(libc::STDIN_FILENO, &mut buf[at..]);
+    let n = io::count(got, &buf[at..]);
+    Reading {
+        at: at + n,
+        last: got,
+    }
+}
+
+// Reads until `buf` is full or a read brings nothing.
+fn read_all(buf: &mut [u8]) -> Reading
+    ensures { λ r. ⌜ Over (length (now (buf .exit))) (r .at) (r .last) ⌝ }
 {
     let mut at = 0;
     while at < buf.len() {
-        let got = libc::read(libc::STDIN_FILENO, &mut buf[at..]);
-        let n = io::count(got, &buf[at..]);
-        if n == 0 {
-            return without_more(got, at);
+        let r = read_part(buf, at);
+        if r.last <= 0 {
+            return r;
         }
-        at += n;
+        at = r.at;
     }
-    Input::Bytes(at)
+    Reading { at, last: 1 }
+}
+
+// Reads standard input until `buf` is full or the input ends. Where a read fails, that is said on standard error, behind the program's name.
+pub fn read_input(name: &[u8], buf: &mut [u8]) -> Reading
+    ensures { λ r. ⌜ Over (length (now (buf .exit))) (r .at) (r .last) ⌝ }
+{
+    let r = read_all(buf);
+    if r.last < 0 {
+        io::write_all(libc::STDERR_FILENO, name);
+        io::write_all(libc::STDERR_FILENO, b": standard input cannot be read\n");
+    }
+    r
 }

@@ -1,40 +1,66 @@
 -- Pieces behind one another, and the digits of a number.
 use mathlib.Core.Path.{_≡_, refl, sym, ap, subst, _∙_}
 use mathlib.Core.Bool.{Bool, true, false}
-use mathlib.Core.List.{List, [], _∷_, _++_, append-assoc}
+use mathlib.Core.List.{List, [], _∷_, _++_, append-assoc, append-nil}
 use Prim.Native.Nat.{ℕ, zero, suc, _+_, _*_, _-_, _/_, _%_, _^_, _≤_, _<_}
 use native.Mathlib.Nat.{not-suc-le-zero, pow-succ'}
 use native.Mathlib.Omega.{arith}
 use native.Mathlib.Decide.{decLt}
 use borrow.Author.Tests.{lt-ltb, le-ltb}
 use lib.Dec.{ltb}
-use lib.ListN.{length, getD, set, take, replicate, length-append, length-set}
-use lib.Seq.{take-suc, paste, paste-suc, take-paste, length-paste, length-take-le}
+use lib.ListN.{length, getD, set, take, drop, replicate, length-append, length-drop, take-append-drop}
+use lib.Seq.{take-suc, take-at, drop-at, drop-drop, take-length, paste, paste-suc, sets-eq, length-take-le}
 use Rattle.definition.specs.Runner.{digitsTo, decimal, padded, hexDigit, hex}
 use Rattle.io.specs.Digits.{glyph, digits, Fewest}
 use Rattle.lines_out.specs.Puts.{Puts}
+
+-- what a buffer holds after a piece was put into it: the piece behind what stood before it, and behind it what stood there
+module _ {out out′ : List ℕ} {at to : ℕ} {w : List ℕ} (p : Puts out at w out′ to) where
+  head : length (take at out ++ w) ≡ to
+  head = let h : at ≤ length out = omega (arith, p .to-is, p .within) in omega (arith, length-append (take at out) w, length-take-le at out h, p .to-is)
+
+  pub text : take to out′ ≡ take at out ++ w
+  text = ap (take to) (p .buffer) ∙ take-at (take at out ++ w) (drop to out) to head
+
+  pub same-size : length out′ ≡ length out
+  same-size = ap length (p .buffer) ∙ omega (arith, length-append (take at out ++ w) (drop to out), head, length-drop to out, p .within)
+
+  pub inside : to ≤ length out′
+  inside = omega (arith, same-size, p .within)
+
+  behind : (k : ℕ) → drop (to + k) out′ ≡ drop (to + k) out
+  behind k =
+      sym (drop-drop k to out′) ∙ ap (drop k) (ap (drop to) (p .buffer) ∙ drop-at (take at out ++ w) (drop to out) to head) ∙ drop-drop k to out
 
 -- one piece behind another is one piece
 pub then : {out mid last : List ℕ} {at m to : ℕ} {v w : List ℕ} → Puts out at v mid m → Puts mid m w last to → Puts out at (v ++ w) last to
 then {out} {mid} {last} {at} {m} {to} {v} {w} p q =
     record {
       to-is = omega (arith, p .to-is, q .to-is, length-append v w);
-      within = q .within;
-      text = q .text ∙ ap (λ (l : List ℕ). l ++ w) (p .text) ∙ append-assoc (take at out) v w;
+      within = omega (arith, q .within, same-size p);
+      buffer = q .buffer
+          ∙ ap (λ (l : List ℕ). l ++ w ++ drop to mid) (text p)
+          ∙ ap (λ (l : List ℕ). take at out ++ v ++ w ++ l) rest
+          ∙ ap (λ (l : List ℕ). l ++ drop to out) (append-assoc (take at out) v w);
+    }
+  where
+    rest : drop to mid ≡ drop to out
+    rest = ap (λ (n : ℕ). drop n mid) (q .to-is) ∙ behind p (length w) ∙ ap (λ (n : ℕ). drop n out) (sym (q .to-is))
+
+-- no byte put
+pub nothing : (out : List ℕ) (at : ℕ) → at ≤ length out → Puts out at [] out at
+nothing out at h =
+    record {
+      to-is = omega arith;
+      within = h;
+      buffer = sym (ap (λ (l : List ℕ). l ++ drop at out) (append-nil (take at out)) ∙ take-append-drop at out);
     }
 
 -- a whole word copied
-all : (w : List ℕ) → take (length w) w ≡ w
-all [] = refl
-all (x ∷ xs) = ap (λ (l : List ℕ). x ∷ l) (all xs)
-
-pub copied : (out out′ w : List ℕ) (at i : ℕ) → at + length w ≤ length out → i ≡ length w → out′ ≡ paste out at w i → Puts out at w out′ (at + i)
-copied out out′ w at i h e p =
-    record {
-      to-is = omega arith;
-      within = rw p (rw e (rw (length-paste out at w (length w) h (omega arith)) h));
-      text = rw p (rw e (take-paste out at w (length w) (omega arith) (omega arith) ∙ ap (λ (l : List ℕ). take at out ++ l) (all w)));
-    }
+pub copied :
+    (out out′ w : List ℕ) (at i : ℕ) → i ≡ length w → out′ ≡ paste out at w i → out′ ≡ take at out ++ w ++ drop (at + length w) out
+copied out out′ w at i e p =
+    p ∙ ap (λ (k : ℕ). paste out at w k) e ∙ ap (λ (l : List ℕ). take at out ++ l ++ drop (at + length w) out) (take-length w)
 
 -- one byte more of a word copied
 pub copy-next :
@@ -154,44 +180,33 @@ pub hex-length : (bs : List ℕ) → length (hex bs) ≡ 2 * length bs
 hex-length [] = refl
 hex-length (b ∷ bs) = omega (arith, hex-length bs)
 
-take-set : (l : List ℕ) (n x : ℕ) → n < length l → take (suc n) (set l n x) ≡ take n l ++ (x ∷ [])
-take-set [] n x h = absurd (not-suc-le-zero h)
-take-set (y ∷ ys) zero x h = refl
-take-set (y ∷ ys) (suc n) x h = ap (λ (l : List ℕ). y ∷ l) (take-set ys n x (omega arith))
-
-two-more : (out : List ℕ) (to x y : ℕ) → to + 1 < length out → take (to + 2) (set (set out to x) (to + 1) y) ≡ take to out ++ (x ∷ y ∷ [])
+-- two digits put
+two-more : (out : List ℕ) (to x y : ℕ) → to + 1 < length out → Puts out to (x ∷ y ∷ []) (set (set out to x) (to + 1) y) (to + 2)
 two-more out to x y h =
-    let a : to + 2 ≡ suc (to + 1) = omega arith in
-    let b : to + 1 ≡ suc to = omega arith in
-    ap (λ (n : ℕ). take n (set (set out to x) (to + 1) y)) a
-    ∙ take-set (set out to x) (to + 1) y (rw length-set h)
-    ∙ ap (λ (n : ℕ). take n (set out to x) ++ (y ∷ [])) b
-    ∙ ap (λ (l : List ℕ). l ++ (y ∷ [])) (take-set out to x (omega arith))
-    ∙ append-assoc (take to out) (x ∷ []) (y ∷ [])
+    let e : to + 1 ≡ suc to = omega arith in
+    record {
+      to-is = omega arith;
+      within = omega arith;
+      buffer = ap (λ (n : ℕ). set (set out to x) n y) e ∙ sets-eq (x ∷ y ∷ []) out to (omega arith);
+    }
 
+-- one byte more
 pub hex-next :
     (out₀ out bytes : List ℕ) (at i to x y : ℕ) → i < length bytes → to + 1 < length out → x ≡ hexDigit (getD bytes i 0 / 16)
-    → y ≡ hexDigit (getD bytes i 0 % 16) → take to out ≡ take at out₀ ++ hex (take i bytes)
-    → take (to + 2) (set (set out to x) (to + 1) y) ≡ take at out₀ ++ hex (take (i + 1) bytes)
+    → y ≡ hexDigit (getD bytes i 0 % 16) → Puts out₀ at (hex (take i bytes)) out to
+    → Puts out₀ at (hex (take (i + 1) bytes)) (set (set out to x) (to + 1) y) (to + 2)
 hex-next out₀ out bytes at i to x y h g e f p =
     let k : i + 1 ≡ suc i = omega arith in
-    two-more out to x y g
-    ∙ ap (λ (l : List ℕ). l ++ (x ∷ y ∷ [])) p
-    ∙ append-assoc (take at out₀) (hex (take i bytes)) (x ∷ y ∷ [])
-    ∙ ap (λ (l : List ℕ). take at out₀ ++ l) (pair ∙ sym (hex-snoc (take i bytes) (getD bytes i 0)) ∙ sym (ap hex (ap (λ (n : ℕ). take n bytes) k ∙ take-suc bytes i 0 h)))
+    subst (λ (w : List ℕ). Puts out₀ at w (set (set out to x) (to + 1) y) (to + 2))
+    (pair ∙ sym (hex-snoc (take i bytes) (getD bytes i 0)) ∙ sym (ap hex (ap (λ (n : ℕ). take n bytes) k ∙ take-suc bytes i 0 h)))
+    (then p (two-more out to x y g))
   where
     pair : hex (take i bytes) ++ (x ∷ y ∷ []) ≡ hex (take i bytes) ++ (hexDigit (getD bytes i 0 / 16) ∷ hexDigit (getD bytes i 0 % 16) ∷ [])
     pair = ap (λ (a : ℕ). hex (take i bytes) ++ (a ∷ y ∷ [])) e ∙ ap (λ (a : ℕ). hex (take i bytes) ++ (hexDigit (getD bytes i 0 / 16) ∷ a ∷ [])) f
 
-pub hex-put :
-    (out₀ out bytes : List ℕ) (at i to : ℕ) → i ≡ length bytes → to ≡ at + 2 * i → at + 2 * length bytes ≤ length out₀ → length out ≡ length out₀
-    → take to out ≡ take at out₀ ++ hex (take i bytes) → Puts out₀ at (hex bytes) out to
-hex-put out₀ out bytes at i to e f h g p =
-    record {
-      to-is = omega (arith, hex-length bytes);
-      within = omega arith;
-      text = p ∙ ap (λ (n : ℕ). take at out₀ ++ hex (take n bytes)) e ∙ ap (λ (l : List ℕ). take at out₀ ++ hex l) (all bytes);
-    }
+-- all bytes
+pub hex-put : (out₀ out bytes : List ℕ) (at i to : ℕ) → i ≡ length bytes → Puts out₀ at (hex (take i bytes)) out to → Puts out₀ at (hex bytes) out to
+hex-put out₀ out bytes at i to e p = subst (λ (l : List ℕ). Puts out₀ at (hex l) out to) (ap (λ (n : ℕ). take n bytes) e ∙ take-length bytes) p
 
 -- a digit below 16
 pub low-hex : (n : ℕ) → n < 10 → 48 + n ≡ hexDigit n

@@ -1,23 +1,31 @@
 // The pieces of the lines that the programs print: a word, a number in decimal or padded with zeros to four digits, bytes in hexadecimal.
 // A program puts one piece behind another into a buffer. Numbers and bytes look as in the crate `definition`, specs/Runner.antt.
 ghost use mathlib.Core.Path.{_≡_};
-ghost use mathlib.Core.List.{[], _∷_};
+ghost use mathlib.Core.List.{[], _∷_, _++_};
 ghost use Prim.Native.Nat.{_+_, _*_, _/_, _%_, _≤_, _<_};
-ghost use lib.ListN.{length};
+ghost use lib.ListN.{length, take, drop};
 ghost use Rattle.definition.specs.Runner.{ascii, decimal, padded, hexDigit, hex, words};
 ghost use Rattle.lines_out.specs.Puts.{Puts};
 
-// Puts `word` into `out` at `at`, and answers where it ends.
-pub fn put(out: &mut [u8], at: usize, word: &[u8]) -> usize
+// Copies `word` to `out` at `at`.
+fn copy(out: &mut [u8], at: usize, word: &[u8])
     requires { ⌜ at + length (now word) ≤ length (now out) ⌝ }
-    ensures { λ r. ⌜ Puts (now (out .entry)) at (now (word .entry)) (now (out .exit)) r ⌝ }
+    ensures { λ _. ⌜ now (out .exit) ≡ take at (now (out .entry)) ++ now (word .entry) ++ drop (at + length (now (word .entry))) (now (out .entry)) ⌝ }
 {
     let mut i = 0;
     while i < word.len() {
         out[at + i] = word[i];
         i += 1;
     }
-    at + i
+}
+
+// Puts `word` into `out` at `at`, and answers where it ends.
+pub fn put(out: &mut [u8], at: usize, word: &[u8]) -> usize
+    requires { ⌜ at + length (now word) ≤ length (now out) ⌝ }
+    ensures { λ r. ⌜ Puts (now (out .entry)) at (now (word .entry)) (now (out .exit)) r ⌝ }
+{
+    copy(out, at, word);
+    at + word.len()
 }
 
 // The decimal digits of n. There are at most 20.
@@ -95,4 +103,15 @@ pub fn put_refused(out: &mut [u8], number: usize, line: usize) -> usize
     let c = put(out, b, b" ");
     let d = put_decimal(out, c, line);
     put(out, d, b"\n")
+}
+
+// Writes the first `size` bytes of `line` to standard output. Where the system does not take them, that is said on standard error, behind the
+// program's name.
+pub fn write_line(name: &[u8], line: &[u8], size: usize)
+    requires { ⌜ size ≤ length (now line) ⌝ }
+{
+    if !io::write_all(libc::STDOUT_FILENO, &line[..size]) {
+        io::write_all(libc::STDERR_FILENO, name);
+        io::write_all(libc::STDERR_FILENO, b": the line could not be written\n");
+    }
 }

@@ -2,11 +2,12 @@
 use mathlib.Core.Path.{_≡_, subst, ap, _∙_}
 use mathlib.Core.Bool.{false, _||_}
 use mathlib.Core.List.{List, [], _∷_}
-use Prim.Native.Nat.{ℕ, _+_, _*_, _≤_}
+use Prim.Native.Nat.{ℕ, _+_, _*_, _≤_, _<_}
 use native.Mathlib.Omega.{arith}
 use borrow.Author.Tests.{le-ltb}
 use lib.Dec.{ltb}
 use lib.ListN.{length, take, length-take}
+use Rattle.definition.specs.Lines.{Load}
 use Rattle.definition.specs.Answers as definition
 use Rattle.definition.specs.Runner.{ascii, decimal, padded, hex, words, answerLine, runnerLine}
 use Rattle.image.specs.Answer.{Slices, numberOf, short}
@@ -17,6 +18,8 @@ use Rattle.run_answers.specs.Run.{Own, anyShort, runShort, answerOf, Runs, Writ
 use Rattle.run_answers.specs.declared.RunAnswer.{RunAnswer}
 use Rattle.run_answers.specs.declared.RunAnswer.the-variants.{Refused, Value, Stop}
 use Rattle.lines_out.specs.Puts.{Puts}
+use Rattle.image_in.specs.Read.{ReadOf}
+use Rattle.image_in.proofs.Parts.{same-load}
 use Rattle.runner.specs.Line.{Fits}
 
 module _ {out out′ : List ℕ} {to : ℕ} (a : RunAnswer) (l : List ℕ) where
@@ -81,10 +84,21 @@ pub says :
     → length (m .bytes) ≡ 32768 → length (m .ends) ≡ 256 → length (m .kinds) ≡ 13107 → length (m .payloads) ≡ 13107
     → length (m .table) ≡ 260 → length (o .texts) ≡ 257 → length (o .classes) ≡ 65 → length (o .stack) ≡ 512 → length (o .locals) ≡ 2048
     → length (o .starts) ≡ 256 → length (o .globals) ≡ 512 → length (o .cells) ≡ 8192 → length (o .memo) ≡ 4096
-    → length before ≡ 4096 → Puts out 0 (answerLine (answerOf a after)) out′ to → (take to out′ ≡ runnerLine bytes) × (to ≤ length out′)
+    → length before ≡ 4096 → Puts out 0 (answerLine (answerOf a after)) out′ to → Puts out 0 (runnerLine bytes) out′ to
 unfolding runnerLine
-says bytes {m} {o} r b e k p t x c s l n g y w room q = (
-  q .text ∙ ap answerLine (r .answers (not-short m o b e k p t x c s l n g y w))
-      ∙ ap (λ (size : ℕ). answerLine (definition.runAnswer bytes 1000000 size)) room,
-  q .within,
-)
+says bytes {m} {o} {out = out} {out′ = out′} {to = to} r b e k p t x c s l n g y w room q =
+    subst
+    (λ (line : List ℕ). Puts out 0 line out′ to)
+    (ap answerLine (r .answers (not-short m o b e k p t x c s l n g y w)) ∙ ap (λ (size : ℕ). answerLine (definition.runAnswer bytes 1000000 size)) room)
+    q
+
+-- the line of what was read of an input is the input's
+pub of-input :
+    (read input out out′ : List ℕ) (n to : ℕ) → 65536 < length read → n ≤ length read → Puts out 0 (runnerLine (take n read)) out′ to → ReadOf read n input
+    → Puts out 0 (runnerLine input) out′ to
+unfolding runnerLine definition.runAnswer
+of-input read input out out′ n to h l p r =
+    subst
+    (λ (line : List ℕ). Puts out 0 line out′ to)
+    (ap (λ (loaded : Load). answerLine (definition.runLoaded loaded 1000000 4096)) (same-load read input n h l r))
+    p

@@ -2,21 +2,23 @@
 // at most 4,096 bytes. It reads one byte more than an image may have; so an input of any length beyond that is refused with 1.
 mod lines; // the line of an answer
 
-ghost use mathlib.Core.Path.{_≡_};
-ghost use Prim.Native.Nat.{_≤_};
-ghost use lib.ListN.{length, take};
+ghost use mathlib.Core.List.{List};
+ghost use Prim.Native.Nat.{ℕ, _≤_, _<_};
+ghost use lib.ListN.{length};
 ghost use Rattle.definition.specs.Runner.{runnerLine};
+ghost use Rattle.image_in.specs.Read.{ReadOf};
+ghost use Rattle.lines_out.specs.Puts.{Puts};
 use image_in::Input;
+use image_in::input_of;
 use image_in::read_input;
-use libc::STDOUT_FILENO;
 use lines::spell;
+use lines_out::write_line;
 use rl_vm::run;
 
-// The line for an image, at the start of `out`, and its length.
+// The line for an image, at the start of `out`, and where it ends.
 fn answer_line(image: &[u8], out: &mut [u8]) -> usize
     requires { ⌜ 8224 ≤ length (now out) ⌝ }
-    ensures line { λ r. ⌜ take r (now (out .exit)) ≡ runnerLine (now (image .entry)) ⌝ }
-    ensures { λ r. ⌜ r ≤ length (now (out .exit)) ⌝ }
+    ensures { λ r. ⌜ Puts (now (out .entry)) 0 (runnerLine (now (image .entry))) (now (out .exit)) r ⌝ }
 {
     let mut result = [0u8; 4096];
     let mut bytes = [0u8; 32768];
@@ -53,26 +55,23 @@ fn answer_line(image: &[u8], out: &mut [u8]) -> usize
     spell(a, &result, out)
 }
 
-// Writes the line for the first n bytes; false where the system did not take it.
-fn say(read: &[u8], n: usize) -> bool
-    requires { ⌜ n ≤ length (now read) ⌝ }
+// The line for the input of which the first n bytes of `read` were read. It is the same for every such input, also for one that is longer than `read`.
+fn input_line(read: &[u8], n: usize, out: &mut [u8]) -> usize
+    requires { ⌜ (65536 < length (now read)) × (n ≤ length (now read)) × (8224 ≤ length (now out)) ⌝ }
+    ensures line { λ r. ⌜ ((input : List ℕ) → ReadOf (now (read .entry)) n input → Puts (now (out .entry)) 0 (runnerLine input) (now (out .exit)) r) ⌝ }
+    ensures { λ r. ⌜ r ≤ length (now (out .exit)) ⌝ }
 {
-    let mut line = [0u8; 8224];
-    let k = answer_line(&read[..n], &mut line);
-    io::write_all(STDOUT_FILENO, &line[..k])
+    answer_line(&read[..n], out)
 }
 
 fn main() {
     let mut read = [0u8; 65537];
-    match read_input(&mut read) {
+    let mut line = [0u8; 8224];
+    match input_of(read_input(b"runner", &mut read)) {
         Input::Bytes(n) => {
-            say(&read, n);
+            let k = input_line(&read, n, &mut line);
+            write_line(b"runner", &line, k);
         }
-        Input::Failed => {
-            io::write_all(
-                libc::STDERR_FILENO,
-                b"runner: standard input cannot be read\n",
-            );
-        }
+        Input::Failed => {}
     }
 }

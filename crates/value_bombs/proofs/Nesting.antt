@@ -1,13 +1,14 @@
 -- Values nested two arrays at a time.
 use mathlib.Core.Path.{_≡_, refl, ap, sym, _∙_, subst}
-use mathlib.Core.Logic.{_↔_, _⊎_, ⊎-elim}
+use mathlib.Core.Logic.{_↔_, _⊎_, inl, inr, ⊎-elim}
 use mathlib.Core.Bool.{Bool, true, false, cond}
 use mathlib.Core.List.{List, [], _∷_, _++_, map}
-use Prim.Native.Nat.{ℕ, zero, suc, _+_, _*_, _<_, _≤_}
+use Prim.Native.Nat.{ℕ, zero, suc, _+_, _*_, _<_, _≤_, max}
 use native.Mathlib.Numerals.{add-one}
 use native.Mathlib.Omega.{arith}
+use borrow.Author.Tests.{leb-false}
 use lib.Dec.{leb, ltb}
-use lib.ListN.{length, getD, take, drop, set}
+use lib.ListN.{length, getD, take, drop, set, length-append}
 use Rattle.clearing.specs.Zero.{AllZero}
 use Rattle.numbers.specs.declared.Number.{Number}
 use Rattle.definition.specs.Image.{Image, chunkAt, textAt}
@@ -17,21 +18,26 @@ use Rattle.definition.specs.Equality.{Equal, equal}
 use Rattle.definition.specs.Coding.{coded}
 use Rattle.definition.proofs.Equality.{equal-decided}
 use Rattle.values.specs.declared.VmValue.{VmValue}
-use Rattle.values.specs.declared.VmValue.the-variants.{Null, Num}
+use Rattle.values.specs.declared.VmValue.the-variants.{Null, Num, Arr}
 use Rattle.values.specs.declared.Built.{Built}
 use Rattle.values.specs.declared.Built.the-variants as built
 use Rattle.value_coding.specs.declared.Coded.{Coded}
 use Rattle.value_coding.specs.declared.Coded.the-variants.{TooLong}
 use Rattle.values.specs.Words.{pairs, valueAt, Fit}
 use Rattle.values.specs.Cells.{treeOver, cellsOf, treesOf, treeOf, Placed, WellFormed, Held}
-use Rattle.values.specs.Building.{Builds, BuiltOn, Kept, RoomKept, FitBuilt}
+use Rattle.values.specs.Flat.{blockOf, deepest, blockBehind}
+use Rattle.values.specs.Building.{builtOf, pickBuilt, Builds, BuiltOn, Kept, RoomKept, FitBuilt}
 use Rattle.value_equality.specs.Classes.{classOf, ClassTables}
 use Rattle.value_equality.specs.Equality.{Memo, Down, EqualAsks, EqualGives}
 use Rattle.value_coding.specs.Coding.{codeOf, codedAnswer, codedOut, CodeGives}
 use Rattle.values.proofs.InCells.{cells-length}
 use Rattle.value_equality.proofs.Memos.{memo-none, down-none}
 use Rattle.values.proofs.FlatTrees.{none-formed}
-use Rattle.value_bombs.specs.Nested.{nestedTree, lastTree, noImage, NestedAsks, Stays, Grows, NestedAt, CodedGives, done, not-built}
+use Rattle.value_bombs.specs.declared.Grown.{Grown}
+use Rattle.value_bombs.specs.declared.Grown.the-variants as growth
+use Rattle.value_bombs.specs.declared.Nested.{Nested}
+use Rattle.value_bombs.specs.declared.Nested.the-variants.{At, NotBuilt}
+use Rattle.value_bombs.specs.Nested.{nestedTree, lastTree, noImage, NestedAsks, Stays, Grows, GrownGives, NestedAt, NestedGives, CodedGives, done, not-built}
 
 -- two values stored in a slice of four zeros
 pub pair-is : (p q : List ℕ) (x y : VmValue) → pairs p ≡ set (pairs (0 ∷ 0 ∷ 0 ∷ 0 ∷ [])) 0 x → pairs q ≡ set (pairs p) 1 y → take 2 (drop 0 (pairs q)) ≡ x ∷ y ∷ []
@@ -104,6 +110,7 @@ leaves-at leaf last n ws a =
         tree = refl;
         fit = tt;
         older = λ u p. record { placed = p; tree = refl };
+        count = omega arith;
       };
       placed = record { below = omega arith; nests = refl };
       tree = refl;
@@ -142,6 +149,7 @@ module _ (leaf last : Number) (i n₀ n : ℕ) (ws₀ ws ws′ : List ℕ) (x y 
               let s = a .path .older u p in
               let t = first .older u (s .placed) in
               stays-then s (stays-then t (second .older u (t .placed)));
+          count = omega (arith, a .path .count);
         };
         placed = second .placed;
         tree = second .tree ∙ ap (λ (t : Value). node arr (more t (more t none))) (x-stays .tree ∙ a .tree);
@@ -152,6 +160,87 @@ module _ (leaf last : Number) (i n₀ n : ℕ) (ws₀ ws ws′ : List ℕ) (x y 
   next-twins =
       let four : n + 2 + 2 ≡ n + 4 = omega arith in
       subst (λ (k : ℕ). Twins leaf last (i + 1) n₀ ws₀ ws′ w v k) four (subst (λ (d : ℕ). Twins leaf last d n₀ ws₀ ws′ w v (n + 2 + 2)) (sym (add-one i)) grown)
+
+-- ---- what was not built: the array of x and y passes a most
+picked-room : (p q : Bool) (v : VmValue) → built.NoRoom ≡ pickBuilt p (pickBuilt q (built.Value v) built.TooDeep) built.NoRoom → p ≡ false
+picked-room true true v e = let z : _≡_ {A = ℕ} 0 1 = cc in absurd (omega arith)
+picked-room true false v e = let z : _≡_ {A = ℕ} 0 1 = cc in absurd (omega arith)
+picked-room false q v e = refl
+
+picked-deep : (p q : Bool) (v : VmValue) → built.TooDeep ≡ pickBuilt p (pickBuilt q (built.Value v) built.TooDeep) built.NoRoom → q ≡ false
+picked-deep true true v e = let z : _≡_ {A = ℕ} 0 1 = cc in absurd (omega arith)
+picked-deep true false v e = refl
+picked-deep false q v e = let z : _≡_ {A = ℕ} 0 1 = cc in absurd (omega arith)
+
+module _ (x y : VmValue) (n : ℕ) (ws ws′ : List ℕ) (r : Built) (b : Builds arr (x ∷ y ∷ []) n ws ws′ r) where
+  pub no-room : 2 * n ≤ length ws → r ≡ built.NoRoom → 4096 < n + 2
+  unfolding builtOf
+  no-room h q =
+      let f =
+      picked-room
+      (leb (length (cellsOf n ws ++ (x ∷ y ∷ []))) 4096)
+      (leb (suc (deepest (x ∷ y ∷ []))) 64)
+      (Arr (blockBehind (cellsOf n ws) (x ∷ y ∷ [])))
+      (sym q ∙ b .answer)
+      in
+      omega (arith, leb-false (length (cellsOf n ws ++ (x ∷ y ∷ []))) 4096 f, length-append (cellsOf n ws) (x ∷ y ∷ []), cells-length n ws h)
+
+  pub too-deep : r ≡ built.TooDeep → 64 ≤ deepest (x ∷ y ∷ [])
+  unfolding builtOf
+  too-deep q =
+      let f =
+      picked-deep
+      (leb (length (cellsOf n ws ++ (x ∷ y ∷ []))) 4096)
+      (leb (suc (deepest (x ∷ y ∷ []))) 64)
+      (Arr (blockBehind (cellsOf n ws) (x ∷ y ∷ [])))
+      (sym q ∙ b .answer)
+      in
+      omega (arith, leb-false (suc (deepest (x ∷ y ∷ []))) 64 f)
+
+-- the second array has no room
+pub no-room-then :
+    (x y v : VmValue) (n : ℕ) (ws mid ws′ : List ℕ) (r r′ : Built) → Builds arr (x ∷ y ∷ []) n ws mid r → r ≡ built.Value v → Builds arr (x ∷ x ∷ []) (n + 2) mid ws′ r′
+    → 8192 ≤ length ws → length mid ≡ length ws → r′ ≡ built.NoRoom → 4096 < n + 4
+no-room-then x y v n ws mid ws′ r r′ b q b′ h l e =
+    let room : n + 2 ≤ 4096 = subst (λ (k : Built). Builds arr (x ∷ y ∷ []) n ws mid k) q b .room in
+    omega (arith, no-room x x (n + 2) mid ws′ r′ b′ (omega arith) e)
+
+-- the nesting of the trees
+nest-pair : (a b : Value) → nest (node arr (more a (more b none))) ≡ suc (max (nest a) (max (nest b) 0))
+unfolding nest nestOver nests
+nest-pair a b = refl
+
+nest-leaf : (n : Number) → nest (node (num n) none) ≡ 0
+unfolding nest nestOver
+nest-leaf n = refl
+
+nest-nested : (n : Number) (d : ℕ) → nest (nestedTree n d) ≡ d
+unfolding nestedTree
+nest-nested n zero = nest-leaf n
+nest-nested n (suc d) = omega (arith, nest-pair (nestedTree n d) (nestedTree n d), nest-nested n d)
+
+nest-last : (n m : Number) (d : ℕ) → nest (lastTree n m d) ≡ d
+unfolding lastTree
+nest-last n m zero = nest-leaf m
+nest-last n m (suc d) = omega (arith, nest-pair (nestedTree n d) (lastTree n m d), nest-nested n d, nest-last n m d)
+
+-- the next array is not built only where the whole tree would pass a most
+pub turn-fails :
+    (leaf last : Number) (i n₀ n depth : ℕ) (ws₀ ws ws′ : List ℕ) (x y : VmValue) (g : Grown) → Twins leaf last i n₀ ws₀ ws x y n → i < depth → g ≡ growth.NotBuilt
+    → GrownGives x y n ws ws′ g → (4096 < n₀ + 4 * depth) ⊎ (64 < depth)
+turn-fails leaf last i n₀ n depth ws₀ ws ws′ x y g t h q k =
+    let deep : blockOf x .nest ≡ i = t .placed .nests ∙ ap nest (t .tree) ∙ nest-nested leaf i in
+    let deep′ : blockOf y .nest ≡ i = t .path .placed .nests ∙ ap nest (t .path .tree) ∙ nest-last leaf last i in
+    let few : n ≡ n₀ + 4 * i = t .path .count in
+    ⊎-elim (λ (a : 4096 < n + 4). inl (omega arith)) (λ (a : 64 ≤ deepest (x ∷ y ∷ [])). inr (omega arith)) (rw q at k)
+
+-- a tree that was built
+pub nested-at : (leaf last : Number) (depth n : ℕ) (ws ws′ : List ℕ) (r : Nested) (v : VmValue) (n′ : ℕ) → r ≡ At v n′ → NestedGives leaf last depth n ws ws′ r → NestedAt leaf last depth n ws ws′ v n′
+nested-at leaf last depth n ws ws′ r v n′ q k = rw q at k
+
+-- a tree behind at most as many cells as it takes is not built only where it nests over 64
+pub too-nested : (leaf last : Number) (depth n : ℕ) (ws ws′ : List ℕ) (r : Nested) → n ≤ 4 * depth → r ≡ NotBuilt → NestedGives leaf last depth n ws ws′ r → 64 < depth
+too-nested leaf last depth n ws ws′ r h q k = ⊎-elim (λ (a : 4096 < n + 4 * depth). omega arith) (λ (a : 64 < depth). a) (rw q at k)
 
 -- where the last leaf is as the others all are the same
 pub all-same : (n : Number) (d : ℕ) → lastTree n n d ≡ nestedTree n d
@@ -207,7 +296,7 @@ equal-gives left left′ right right′ depth n m ws₀ ws₁ ws memo a b r x y 
 pub code-asks : (leaf last : Number) (depth n : ℕ) (ws₀ ws : List ℕ) (v : VmValue) → NestedAt leaf last depth 0 ws₀ ws v n → Held ws n v
 code-asks leaf last depth n ws₀ ws v x = record { room = omega (arith, x .asks .few, x .asks .words); formed = x .asks .formed; placed = x .placed }
 
-pub code-gives : (leaf last : Number) (depth n : ℕ) (ws₀ ws : List ℕ) (v : VmValue) (l l′ : List ℕ) (r : Coded) → NestedAt leaf last depth 0 ws₀ ws v n → CodeGives ws n v l l′ r → CodedGives leaf last depth l l′ r
-code-gives leaf last depth n ws₀ ws v l l′ r x g =
+pub code-gives : (leaf last : Number) (depth n : ℕ) (ws₀ ws : List ℕ) (v : VmValue) (words : ℕ) (l l′ : List ℕ) (r : Coded) → NestedAt leaf last depth 0 ws₀ ws v n → CodeGives ws n v l l′ r → CodedGives leaf last depth words l l′ r
+code-gives leaf last depth n ws₀ ws v words l l′ r x g =
     let e : codeOf ws n v ≡ coded trees n (lastTree leaf last depth) = ap (coded trees n) (x .tree) in
     done n (g .answer ∙ ap (λ (bs : List ℕ). codedAnswer (leb (length bs) (length l)) bs) e) (g .out ∙ ap (λ (bs : List ℕ). codedOut (leb (length bs) (length l)) bs l) e)

@@ -5,6 +5,7 @@ ghost use mathlib.Core.List.{[], _∷_};
 ghost use Prim.Native.Nat.{ℕ, _+_, _*_, _<_, _≤_};
 ghost use lib.ListN.{length};
 ghost use Rattle.definition.specs.Value.{arr};
+ghost use Rattle.clearing.specs.Zero.{AllZero};
 ghost use Rattle.values.specs.Words.{Fit};
 ghost use Rattle.values.specs.Building.{Builds};
 ghost use Rattle.value_bombs.specs.Nested.{NestedAsks, GrownGives, NestedGives, ComparedGives, CodedGives};
@@ -12,6 +13,7 @@ use super::Compared;
 use super::Grown;
 use super::Nested;
 use clearing::clear_u16;
+use clearing::clear_u64;
 use numbers::Number;
 use value_coding::Coded;
 use values::Built;
@@ -71,8 +73,8 @@ fn nest(cells: &mut [u64], nc: usize, leaf: Number, last: Number, depth: usize) 
     Nested::At(y, n)
 }
 
-// Two such trees compared.
-pub fn compare_nested(
+// Two such trees compared, in slices as they come.
+fn compare_in(
     left: Number,
     left_last: Number,
     right: Number,
@@ -81,7 +83,7 @@ pub fn compare_nested(
     cells: &mut [u64],
     memo: &mut [u16],
 ) -> Compared
-    ensures { λ r. ⌜ ComparedGives left «left_last» right «right_last» depth r ⌝ }
+    ensures { λ r. ⌜ ComparedGives left «left_last» right «right_last» depth (length (now (cells .entry))) (length (now (memo .entry))) r ⌝ }
 {
     if cells.len() < 8192 {
         return Compared::NotBuilt;
@@ -103,15 +105,29 @@ pub fn compare_nested(
     }
 }
 
-// Such a tree coded.
-pub fn code_nested(
-    leaf: Number,
-    last: Number,
+// Two such trees compared. Both slices are zero afterwards.
+pub fn compare_nested(
+    left: Number,
+    left_last: Number,
+    right: Number,
+    right_last: Number,
     depth: usize,
     cells: &mut [u64],
-    out: &mut [u8],
-) -> Coded
-    ensures { λ r. ⌜ CodedGives leaf last depth (now (out .entry)) (now (out .exit)) r ⌝ }
+    memo: &mut [u16],
+) -> Compared
+    ensures { λ r. ⌜ ComparedGives left «left_last» right «right_last» depth (length (now (cells .entry))) (length (now (memo .entry))) r ⌝ }
+    ensures { λ _. ⌜ AllZero (now (cells .exit)) ⌝ }
+    ensures { λ _. ⌜ AllZero (now (memo .exit)) ⌝ }
+{
+    let answer = compare_in(left, left_last, right, right_last, depth, cells, memo);
+    clear_u64(cells);
+    clear_u16(memo);
+    answer
+}
+
+// Such a tree coded, in cells as they come.
+fn code_in(leaf: Number, last: Number, depth: usize, cells: &mut [u64], out: &mut [u8]) -> Coded
+    ensures { λ r. ⌜ CodedGives leaf last depth (length (now (cells .entry))) (now (out .entry)) (now (out .exit)) r ⌝ }
 {
     if cells.len() < 8192 {
         return Coded::TooLong;
@@ -120,4 +136,20 @@ pub fn code_nested(
         Nested::At(a, n) => value_coding::code_value(cells, n, a, out),
         Nested::NotBuilt => Coded::TooLong,
     }
+}
+
+// Such a tree coded. The cells are zero afterwards.
+pub fn code_nested(
+    leaf: Number,
+    last: Number,
+    depth: usize,
+    cells: &mut [u64],
+    out: &mut [u8],
+) -> Coded
+    ensures { λ r. ⌜ CodedGives leaf last depth (length (now (cells .entry))) (now (out .entry)) (now (out .exit)) r ⌝ }
+    ensures { λ _. ⌜ AllZero (now (cells .exit)) ⌝ }
+{
+    let answer = code_in(leaf, last, depth, cells, out);
+    clear_u64(cells);
+    answer
 }

@@ -1,22 +1,22 @@
 use Rattle.lines_out.proofs.put_hex.Statement.{statement}
 use Rattle.lines_out.proofs.put_hex.Tie as tie
-use mathlib.Core.Path.{_≡_, refl, sym, _∙_}
-use mathlib.Core.List.{_++_, append-nil}
+use mathlib.Core.Path.{_≡_, refl, _∙_}
 use Prim.Native.Nat.{_+_, _*_, _-_, _≤_}
 use native.Mathlib.Omega.{arith}
 use lib.ListN.{length, getD, set, take, length-set}
 use borrow.Author.Needs.{needs}
 use Rattle.definition.specs.Runner.{hex}
-use Rattle.lines_out.proofs.Pieces.{hex-next, hex-put}
+use Rattle.lines_out.proofs.Pieces.{nothing, hex-next, hex-put}
+use Rattle.lines_out.specs.Puts.{Puts}
 
 abbrev Inv-loop : tie.InvT-loop
-Inv-loop out₀ at bytes i₀ to₀ out i to = (i ≤ length bytes) × (length out ≡ length out₀) × (to ≡ at + 2 * i) × (take to out ≡ take at out₀ ++ hex (take i bytes))
+Inv-loop out₀ at bytes i₀ to₀ out i to = (i ≤ length bytes) × (length out ≡ length out₀) × (to ≡ at + 2 * i) × Puts out₀ at (hex (take i bytes)) out to
 
 abbrev μ-loop : tie.MeasureT-loop
 μ-loop out₀ at bytes i₀ to₀ out i to = length bytes - i
 
 loop-holds : tie.Need-loop-holds Inv-loop μ-loop
-loop-holds c = (omega arith, refl, omega arith, sym (append-nil (take (c .before .before .args .at) (c .before .before .args .out .now))))
+loop-holds c = (omega arith, refl, omega arith, nothing (c .before .before .args .out .now) (c .before .before .args .at) (omega (arith, c .before .before .pre)))
 
 shared-slice-read-high-digit : tie.Need-shared-slice-read-high-digit Inv-loop μ-loop
 shared-slice-read-high-digit c = (c .before .loop-test .taken)
@@ -55,7 +55,7 @@ same-length : tie.Need-same-length Inv-loop μ-loop
 same-length c = (c .before .loop .inv .1)
 
 returns : tie.Need-returns Inv-loop μ-loop
-returns c = hex-put (c .before .before .before .before .args .out .now) (c .before .loop .out) (c .before .before .before .before .args .bytes .now) (c .before .before .before .before .args .at) (c .before .loop .i) (c .before .loop .to) (omega (arith, (c .before .loop .inv .0), (c .loop-test .left))) (c .before .loop .inv .2) (c .before .before .before .before .pre) (c .before .loop .inv .1) (c .before .loop .inv .3)
+returns c = hex-put (c .before .before .before .before .args .out .now) (c .before .loop .out) (c .before .before .before .before .args .bytes .now) (c .before .before .before .before .args .at) (c .before .loop .i) (c .before .loop .to) (omega (arith, (c .before .loop .inv .0), (c .loop-test .left))) (c .before .loop .inv .3)
 
 pub put-hex-spec : {M : Type 1} → statement M
 put-hex-spec =

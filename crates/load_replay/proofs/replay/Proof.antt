@@ -30,7 +30,7 @@ image-end-requires : tie.Need-image-end-requires Inv-loop μ-loop
 image-end-requires c κs = omega arith
 
 sub-judge : tie.Need-sub-judge Inv-loop μ-loop
-sub-judge c = omega (arith, (c .image-end .ensures))
+sub-judge c = omega (arith, (c .image-end .ensures .0))
 
 part-judge-start : tie.Need-part-judge-start Inv-loop μ-loop
 part-judge-start c = search needs

@@ -2,7 +2,11 @@
 use mathlib.Core.Path.{_≡_, refl, sym, ap, _∙_, subst}
 use mathlib.Core.List.{List, [], _∷_}
 use native.Mathlib.Omega.{arith}
-use Prim.Native.Nat.{ℕ, _+_, _≤_}
+use mathlib.Core.Logic.{inl, inr}
+use Prim.Native.Nat.{ℕ, _+_, _*_, _≤_, _<_}
+use lib.ListN.{length}
+use Rattle.values.specs.Flat.{deepest}
+use Rattle.value_bombs.proofs.Nesting.{no-room, too-deep, no-room-then}
 use Rattle.definition.specs.Value.{arr}
 use Rattle.values.specs.declared.Built.{Built}
 use Rattle.values.specs.Building.{Builds}
@@ -51,25 +55,46 @@ same-length-2 : tie.Need-same-length-2
 same-length-2 c = search needs
 
 returns-2 : tie.Need-returns-2
-returns-2 c = search needs
+returns-2 c =
+    let start = c .before .before .before .before .before .before .before .before .before .before .before .before .before .before in
+    let pair = c .before .before .before .before .before .before .before .before .before .before .before .pair in
+    let again = c .before .before .before .before .pair2 in
+    let a = start .args in
+    inl
+    (no-room-then (a .x) (a .y) _ (a .nc) (a .cells .now) (pair .last .0) (again .last .0) (pair .result) (again .result) (pair .ensures) (c .before .before .before .before .before .before .before .v .given .1) (again .ensures) (start .pre .0) (pair .kept .0) (c .enum-told .given .1))
 
 same-length-3 : tie.Need-same-length-3
 same-length-3 c = search needs
 
 returns-3 : tie.Need-returns-3
-returns-3 c = search needs
+returns-3 c =
+    let pair = c .before .before .before .before .before .before .before .before .before .before .before .pair in
+    let again = c .before .before .before .before .pair2 in
+    let a = c .before .before .before .before .before .before .before .before .before .before .before .before .before .before .args in
+    let d : 64 ≤ deepest (a .x ∷ a .x ∷ []) = too-deep (a .x) (a .x) (a .nc + 2) (pair .last .0) (again .last .0) (again .result) (again .ensures) (c .enum-told2 .given .1) in
+    let e : 64 ≤ deepest (a .x ∷ a .y ∷ []) = omega (arith, d) in
+    inr e
 
 same-length-4 : tie.Need-same-length-4
 same-length-4 c = search needs
 
 returns-4 : tie.Need-returns-4
-returns-4 c = search needs
+returns-4 c =
+    let start = c .before .before .before .before .before .before .before in
+    let pair = c .before .before .before .before .pair in
+    let a = start .args in
+    let h : 2 * a .nc ≤ length (a .cells .now) = omega (arith, start .pre .0, start .pre .1) in
+    let f : 4096 < a .nc + 4 = omega (arith, no-room (a .x) (a .y) (a .nc) (a .cells .now) (pair .last .0) (pair .result) (pair .ensures) h (c .enum-told3 .given .1)) in
+    inl f
 
 same-length-5 : tie.Need-same-length-5
 same-length-5 c = search needs
 
 returns-5 : tie.Need-returns-5
-returns-5 c = search needs
+returns-5 c =
+    let pair = c .before .before .before .before .pair in
+    let a = c .before .before .before .before .before .before .before .args in
+    inr (too-deep (a .x) (a .y) (a .nc) (a .cells .now) (pair .last .0) (pair .result) (pair .ensures) (c .enum-told4 .given .1))
 
 pub grow-spec : {M : Type 1} → statement M
 grow-spec =

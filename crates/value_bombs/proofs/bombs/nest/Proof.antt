@@ -8,7 +8,7 @@ use Rattle.numbers.specs.declared.Number.{Number}
 use Rattle.values.specs.declared.VmValue.the-variants.{Num}
 use Rattle.value_bombs.specs.declared.Grown.{Grown}
 use Rattle.value_bombs.specs.Nested.{GrownGives, NestedAt}
-use Rattle.value_bombs.proofs.Nesting.{Twins, first-twins, next-twins}
+use Rattle.value_bombs.proofs.Nesting.{Twins, first-twins, next-twins, turn-fails}
 use Rattle.value_bombs.proofs.bombs.nest.Statement.{statement}
 use Rattle.value_bombs.proofs.bombs.nest.Tie as tie
 use Rattle.value_bombs.proofs.bombs.nest.Reads as reads
@@ -40,7 +40,11 @@ same-length : tie.Need-same-length Inv-loop μ-loop
 same-length c = omega (arith, (c .before .before .before .before .grow .kept) .0, (c .before .before .before .before .before .before .before .loop .inv) .1)
 
 returns : tie.Need-returns Inv-loop μ-loop
-returns c = tt
+returns c =
+    let a = c .before .before .before .before .before .before .before .before .before .args in
+    let loop = c .before .before .before .before .before .before .before .loop in
+    let grown = c .before .before .before .before .grow in
+    turn-fails (a .leaf) (a .last) (loop .i) (a .nc) (loop .n) (a .depth) (a .cells .now) (loop .cells) (grown .last .0) (loop .x) (loop .y) (grown .result) (loop .inv .2 (a .leaf) (a .last) refl refl) (c .before .before .before .before .before .before .loop-test .taken) (c .enum-told .given .1) (grown .ensures)
 
 add-i : tie.Need-add-i Inv-loop μ-loop
 add-i c = let f = (c .before .before .before .before .before .before .before .before .before .before .fits .depth .fits) in omega (arith, (c .before .before .before .before .before .before .before .loop-test .taken))

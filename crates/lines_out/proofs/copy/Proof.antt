@@ -1,5 +1,6 @@
-use Rattle.lines_out.proofs.put.Statement.{statement}
-use Rattle.lines_out.proofs.put.Tie as tie
+-- Each turn copies a byte more of the word.
+use Rattle.lines_out.proofs.copy.Statement.{statement}
+use Rattle.lines_out.proofs.copy.Tie as tie
 use mathlib.Core.Path.{_≡_, refl, _∙_}
 use Prim.Native.Nat.{_+_, _-_, _≤_}
 use native.Mathlib.Omega.{arith}
@@ -18,7 +19,7 @@ loop-holds : tie.Need-loop-holds Inv-loop μ-loop
 loop-holds c = (omega arith, refl, paste-zero (c .args .out .now) (c .args .at) (c .args .word .now))
 
 shared-slice-read-out : tie.Need-shared-slice-read-out Inv-loop μ-loop
-shared-slice-read-out c = (c .before .loop-test .taken)
+shared-slice-read-out c = omega (arith, (c .before .loop-test .taken))
 
 add-out : tie.Need-add-out Inv-loop μ-loop
 add-out c = let h = (c .before .before .before .pre) in let g = (c .before .loop-test .taken) in search needs
@@ -35,17 +36,14 @@ loop-less c = omega (arith, (c .before .loop-test .taken))
 loop-again : tie.Need-loop-again Inv-loop μ-loop
 loop-again c = (omega (arith, (c .before .loop-test .taken)), length-set (c .before .before .loop .out) ((c .before .before .before .args .at) + (c .before .before .loop .i)) (getD (c .before .before .before .args .word .now) (c .before .before .loop .i) 0) ∙ (c .before .before .loop .inv .1), copy-next (c .before .before .before .args .out .now) (c .before .before .loop .out) (c .before .before .before .args .word .now) (c .before .before .before .args .at) (c .before .before .loop .i) (c .before .before .before .pre) (c .before .loop-test .taken) (c .before .before .loop .inv .2))
 
-add-result : tie.Need-add-result Inv-loop μ-loop
-add-result c = let h = (c .before .before .pre) in let g = (c .before .loop .inv .0) in search needs
-
 same-length : tie.Need-same-length Inv-loop μ-loop
 same-length c = (c .before .loop .inv .1)
 
 returns : tie.Need-returns Inv-loop μ-loop
-returns c = copied (c .before .before .args .out .now) (c .before .loop .out) (c .before .before .args .word .now) (c .before .before .args .at) (c .before .loop .i) (c .before .before .pre) (omega (arith, (c .before .loop .inv .0), (c .loop-test .left))) (c .before .loop .inv .2)
+returns c = copied (c .before .before .args .out .now) (c .before .loop .out) (c .before .before .args .word .now) (c .before .before .args .at) (c .before .loop .i) (omega (arith, (c .before .loop .inv .0), (c .loop-test .left))) (c .before .loop .inv .2)
 
-pub put-spec : {M : Type 1} → statement M
-put-spec =
+pub copy-spec : {M : Type 1} → statement M
+copy-spec =
     tie.close
     (tie.spec
     Inv-loop
@@ -57,6 +55,5 @@ put-spec =
     add-i
     loop-less
     loop-again
-    add-result
     same-length
     returns)
