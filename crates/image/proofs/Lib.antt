@@ -1,4 +1,5 @@
 pub mod Grown
+pub mod Blanking
 pub mod Reading
 pub mod Nested
 pub mod Access

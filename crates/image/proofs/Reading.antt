@@ -24,11 +24,12 @@ use Rattle.image_records.specs.declared.Record.the-variants.{Text, Opens, Const
 use Rattle.image_store.specs.Stored.{advance, Fine, Accepted, finishOf}
 use Rattle.image_store.specs.declared.Turn.{Turn}
 use Rattle.image_store.specs.declared.Turn.the-variants.{Next, Ready, Stop}
-use Rattle.image.specs.Answer.{Slices, holds, refuses, encoded, short, loadIn, Behind, BehindMost, Loads}
-use Rattle.image.specs.Turns.{Parts, none-yet, grow, countsIn, onRecord, onLine, go, goes, loadOf, heldBy, partsOf, Roomy, Sized, turnOf, BehindState, TurnFits, Grows, TurnLeft, TakesLine, LoadsLines}
+use Rattle.image.specs.Answer.{Slices, holds, refuses, encoded, short, loadIn, Behind, BehindMost, blanked, Loads}
+use Rattle.image.specs.Turns.{Parts, none-yet, grow, countsIn, onRecord, onLine, go, goes, loadOf, heldBy, partsOf, Roomy, Sized, turnOf, BehindState, TurnFits, Grows, TurnLeft, TakesLine, LoadsLines, isRefused, LoadsSettled}
 use Rattle.image.specs.declared.LoadAnswer.{LoadAnswer}
 use Rattle.image.specs.declared.LoadAnswer.the-variants.{Loaded, Refused}
 use Rattle.image.proofs.Grown.{fine, grown}
+use Rattle.image.proofs.Blanking.{blanked-again, blanked-behind}
 
 -- nothing follows
 no-line : (x : ℕ) (ls : List (List ℕ)) (left : List ℕ) → (isEmpty (inFront x ls left .lines) && isEmpty (inFront x ls left .left)) ≡ false
@@ -431,7 +432,13 @@ reading-end image m₀ m s at k was h g =
 pub loads-short : (image : List ℕ) (m : Slices) → short m ≡ true → Loads image m (Refused ShortSlice 0) m
 unfolding loadIn
 loads-short image m e =
-    record { answer = rw e; left = behind-same 32768 256 13107 260 m; short-same = λ _. refl; long-same = λ _. refl }
+    record {
+      answer = rw e;
+      left = behind-same 32768 256 13107 260 m;
+      short-same = λ _. refl;
+      long-same = λ _. refl;
+      refused-blank = λ q _. true-not-false (sym e ∙ q);
+    }
 
 pub not-short : (m : Slices) → Roomy m → short m ≡ false
 not-short m r =
@@ -483,18 +490,34 @@ loads-long image m r h =
       left = behind-same 32768 256 13107 260 m;
       short-same = λ _. refl;
       long-same = λ _. refl;
+      refused-blank = λ _ g. absurd (apart g);
     }
+  where
+    apart : length image ≤ 65536 → ⊥
+    apart g = omega arith
+
+-- a loaded image stays, a refused one is blanked; behind the named lengths the slices were the same before that
+pub settled-loaded : (image : List ℕ) (m m₁ : Slices) (r : LoadAnswer) → LoadsLines image m r m₁ → isRefused r ≡ false → LoadsSettled image m r m₁
+settled-loaded image m m₁ (Loaded n) l e = record { lines = l; blank = tt }
+settled-loaded image m m₁ (Refused r k) l e = true-not-false e
+
+pub settled-refused : (image : List ℕ) (m m₁ m₂ : Slices) (r : LoadAnswer) → LoadsLines image m r m₁ → isRefused r ≡ true → m₂ ≡ blanked m₁ → LoadsSettled image m r m₂
+settled-refused image m m₁ m₂ (Loaded n) l e b = false-not-true e
+settled-refused image m m₁ m₂ (Refused r k) l e b =
+    let same : m₂ ≡ blanked m = b ∙ blanked-again m m₁ (l .left) in
+    record { lines = record { answer = l .answer; left = rw same (blanked-behind m) }; blank = same }
 
 pub loads-whole :
-    (image : List ℕ) (m m′ : Slices) (r : LoadAnswer) → Roomy m → length image ≤ 65536 → loadOf image ≡ encoded (loadImage image) → LoadsLines image m r m′
+    (image : List ℕ) (m m′ : Slices) (r : LoadAnswer) → Roomy m → length image ≤ 65536 → loadOf image ≡ encoded (loadImage image) → LoadsSettled image m r m′
     → Loads image m r m′
 unfolding loadIn
 loads-whole image m m′ r roomy h e l =
     record {
-      answer = rw (not-short m roomy) (l .answer ∙ e);
-      left = l .left;
+      answer = rw (not-short m roomy) (l .lines .answer ∙ e);
+      left = l .lines .left;
       short-same = λ q. true-not-false (sym q ∙ not-short m roomy);
       long-same = λ q. absurd (apart q);
+      refused-blank = λ _ _. l .blank;
     }
   where
     apart : 65536 < length image → ⊥

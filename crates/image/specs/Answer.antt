@@ -1,9 +1,9 @@
 -- What `load` answers, and what it leaves in the work slices.
 use mathlib.Core.Path.{_≡_}
-use mathlib.Core.Bool.{Bool, true, cond, _||_}
+use mathlib.Core.Bool.{Bool, true, false, cond, _||_}
 use mathlib.Core.List.{List, [], _∷_, _++_, map}
-use Prim.Native.Nat.{ℕ, _+_, _*_, _<_}
-use lib.ListN.{length, take, drop}
+use Prim.Native.Nat.{ℕ, _+_, _*_, _≤_, _<_}
+use lib.ListN.{length, take, drop, replicate}
 use lib.Dec.{ltb}
 use Rattle.definition.specs.Image.{Constant, Chunk, Image}
 use Rattle.definition.specs.Lines.{Load, image, refused, loadImage, constantsOf}
@@ -122,15 +122,36 @@ abbrev pub BehindMost : Slices → Slices → Type 0
 BehindMost m m′ = Behind 32768 256 13107 260 m m′
 
 -- Behind a loaded image `ends`, `kinds`, `payloads` and `table` are as they were. Of `bytes` nothing is said between the image's last byte and
--- the first 32,768: fields of lines that are neither text nor code were read there. After a refusal nothing is said of the first 32,768,
--- 256, 13,107, 13,107 and 260 elements, in which what was read before the refusal stands.
+-- the first 32,768: fields of lines that are neither text nor code were read there. After a refusal all is as it was behind the named lengths.
 abbrev pub Left : LoadAnswer → Slices → Slices → Type 0
 Left (Loaded n) m m′ = Behind 32768 (n .texts) (n .constants) (4 * (n .chunks + 1)) m m′
 Left (Refused r k) m m′ = BehindMost m m′
 
--- m before and m′ after. A short slice, which is 9, and an image that is too long, which is 1, leave all slices as they were
+-- a slice that is zero up to this length, and as it was behind it
+unfoldable pub zeroTo : ℕ → List ℕ → List ℕ
+zeroTo n l = replicate n 0 ++ drop n l
+
+-- "All work memory is zero after every operation": each slice zero up to its named length, which is all of it that is ever written
+abbrev pub blanked : Slices → Slices
+blanked m =
+    record {
+      bytes = zeroTo 32768 (m .bytes);
+      ends = zeroTo 256 (m .ends);
+      kinds = zeroTo 13107 (m .kinds);
+      payloads = zeroTo 13107 (m .payloads);
+      table = zeroTo 260 (m .table);
+    }
+
+-- of a refused image nothing stays
+abbrev pub Blanked : LoadAnswer → Slices → Slices → Type 0
+Blanked (Loaded n) m m′ = Unit {0}
+Blanked (Refused r k) m m′ = m′ ≡ blanked m
+
+-- m before and m′ after. A short slice, which is 9, and an image that is too long, which is 1, leave all slices as they were; any other refusal,
+-- 2 to 7, leaves them `blanked`. So after a refusal every element of all five is settled.
 pub record Loads (bytes : List ℕ) (m : Slices) (r : LoadAnswer) (m′ : Slices) : Type 0 where
   pub answer : outcomeOf r m′ ≡ loadIn m bytes
   pub left : Left r m m′
   pub short-same : short m ≡ true → m′ ≡ m
   pub long-same : 65536 < length bytes → m′ ≡ m
+  pub refused-blank : short m ≡ false → length bytes ≤ 65536 → Blanked r m m′

@@ -1,7 +1,7 @@
 -- The reading of an image, line after line, over the work slices: what the crate's own functions are held to. proofs/Nested.antt shows that
 -- it gives the image that document 01 describes.
 use mathlib.Core.Path.{_≡_}
-use mathlib.Core.Bool.{Bool, cond, _&&_}
+use mathlib.Core.Bool.{Bool, true, false, cond, _&&_}
 use mathlib.Core.List.{List, [], _∷_, _++_}
 use Prim.Native.Nat.{ℕ, _+_, _*_, _≤_, _<_}
 use lib.ListN.{length, take, drop}
@@ -14,8 +14,9 @@ use Rattle.image_records.specs.declared.State.{State}
 use Rattle.image_store.specs.Stored.{advance, newEnds, newKinds, newPayloads, newRow}
 use Rattle.image_store.specs.declared.Turn.{Turn}
 use Rattle.image_store.specs.declared.Turn.the-variants.{Next, Ready, Stop}
-use Rattle.image.specs.Answer.{Slices, Outcome, holds, refuses, outcomeOf, Behind, BehindMost, Left}
+use Rattle.image.specs.Answer.{Slices, Outcome, holds, refuses, outcomeOf, Behind, BehindMost, Left, Blanked}
 use Rattle.image.specs.declared.LoadAnswer.{LoadAnswer}
+use Rattle.image.specs.declared.LoadAnswer.the-variants.{Loaded, Refused}
 use Rattle.image.specs.declared.Counts.{Counts}
 
 -- what was read so far: the numbers, and what the slices hold of it
@@ -152,3 +153,12 @@ pub record TakesLine (image : List ℕ) (s : State) (at k : ℕ) (m : Slices) (u
 pub record LoadsLines (image : List ℕ) (m : Slices) (r : LoadAnswer) (m′ : Slices) : Type 0 where
   pub answer : outcomeOf r m′ ≡ loadOf image
   pub left : Left r m m′
+
+abbrev pub isRefused : LoadAnswer → Bool
+isRefused (Loaded n) = false
+isRefused (Refused r k) = true
+
+-- all lines, and nothing left of a refused image
+pub record LoadsSettled (image : List ℕ) (m : Slices) (r : LoadAnswer) (m′ : Slices) : Type 0 where
+  pub lines : LoadsLines image m r m′
+  pub blank : Blanked r m m′

@@ -3,8 +3,11 @@
 ghost use mathlib.Core.Path.{_≡_};
 ghost use Prim.Native.Nat.{_≤_, _<_};
 ghost use lib.ListN.{length};
-ghost use Rattle.image.specs.Answer.{slices, Loads};
-ghost use Rattle.image.specs.Turns.{Roomy, Sized, TakesLine, LoadsLines};
+ghost use Rattle.image.specs.Answer.{slices, blanked, Loads};
+ghost use Rattle.image.specs.Turns.{Roomy, Sized, TakesLine, LoadsLines, isRefused, LoadsSettled};
+use clearing::clear_u8;
+use clearing::clear_u64;
+use clearing::clear_usize;
 use image_lines::Read;
 use image_lines::line_end;
 use image_lines::read_line;
@@ -117,6 +120,57 @@ fn load_lines(
     LoadAnswer::Refused(Reason::NoEnd, 0)
 }
 
+// Zero up to each slice's named length, which is all that reading an image may have written.
+fn blank(
+    bytes: &mut [u8],
+    ends: &mut [usize],
+    kinds: &mut [u8],
+    payloads: &mut [u64],
+    table: &mut [usize],
+)
+    requires { ⌜ Roomy (slices (now bytes) (now ends) (now kinds) (now payloads) (now table)) ⌝ }
+    ensures { λ r. ⌜ slices (now (bytes .exit)) (now (ends .exit)) (now (kinds .exit)) (now (payloads .exit)) (now (table .exit)) ≡ blanked (slices (now (bytes .entry)) (now (ends .entry)) (now (kinds .entry)) (now (payloads .entry)) (now (table .entry))) ⌝ }
+{
+    let most_bytes = 32768;
+    let most_texts = 256;
+    let most_constants = 13107;
+    let most_rows = 260;
+    clear_u8(&mut bytes[..most_bytes]);
+    clear_usize(&mut ends[..most_texts]);
+    clear_u8(&mut kinds[..most_constants]);
+    clear_u64(&mut payloads[..most_constants]);
+    clear_usize(&mut table[..most_rows]);
+}
+
+fn is_refused(answer: LoadAnswer) -> bool
+    ensures { λ r. ⌜ r ≡ isRefused answer ⌝ }
+{
+    match answer {
+        LoadAnswer::Loaded(_) => false,
+        LoadAnswer::Refused(_, _) => true,
+    }
+}
+
+// An image that is not too long, in slices that are long enough. Of a refused one nothing stays in them.
+fn load_roomy(
+    image: &[u8],
+    bytes: &mut [u8],
+    ends: &mut [usize],
+    kinds: &mut [u8],
+    payloads: &mut [u64],
+    table: &mut [usize],
+) -> LoadAnswer
+    requires { ⌜ (length (now image) ≤ 65536) × Roomy (slices (now bytes) (now ends) (now kinds) (now payloads) (now table)) ⌝ }
+    ensures { λ r. ⌜ LoadsSettled (now (image .entry)) (slices (now (bytes .entry)) (now (ends .entry)) (now (kinds .entry)) (now (payloads .entry)) (now (table .entry))) r (slices (now (bytes .exit)) (now (ends .exit)) (now (kinds .exit)) (now (payloads .exit)) (now (table .exit))) ⌝ }
+{
+    let answer = load_lines(image, bytes, ends, kinds, payloads, table);
+    if is_refused(answer) {
+        blank(bytes, ends, kinds, payloads, table);
+        return answer;
+    }
+    answer
+}
+
 // Load: the image, judged and decoded into the work slices, or the reason and the line of the refusal. What an image fills of each slice, and
 // what the slices hold besides, is said in specs/Answer.antt; how a caller finds a chunk and a text in them, in specs/Held.antt.
 pub fn load(
@@ -148,5 +202,5 @@ pub fn load(
     if 65536 < image.len() {
         return LoadAnswer::Refused(Reason::TooLong, 0);
     }
-    load_lines(image, bytes, ends, kinds, payloads, table)
+    load_roomy(image, bytes, ends, kinds, payloads, table)
 }

@@ -1,5 +1,5 @@
 -- Laws on the lines of an image and on their digits.
-use mathlib.Core.Path.{_≡_, refl, ap, _∙_}
+use mathlib.Core.Path.{_≡_, refl, ap, sym, _∙_}
 use mathlib.Core.Bool.{Bool, true, false, cond, _&&_}
 use mathlib.Core.List.{List, [], _∷_, _++_, append-assoc, append-nil}
 use mathlib.Core.Option.{Option, none, some}
@@ -7,10 +7,11 @@ use Prim.Native.Nat.{ℕ, suc, _+_, _*_, _-_, _%_, _≤_, _<_}
 use native.Mathlib.Numerals.{add-one}
 use native.Mathlib.Omega.{arith}
 use borrow.Author.Tests.{lt-ltb, le-leb, lt-leb, ne-eqb}
-use lib.Dec.{ltb, leb}
-use lib.ListN.{length, getD, take, drop, set, length-drop, length-take, drop-of-length-le}
-use lib.Seq.{drop-cons, take-suc-set, split-at, getD-drop, getD-take, drop-drop}
+use lib.Dec.{ltb, leb, eqb}
+use lib.ListN.{length, getD, take, drop, set, length-drop, length-take, drop-of-length-le, take-append-drop}
+use lib.Seq.{drop-cons, take-suc-set, split-at, getD-drop, getD-take, drop-drop, drop-set-lt, length-take-le}
 use Rattle.definition.specs.Lines.{split, digit, withByte, bytesOf, line, faulty, lineOf}
+use Rattle.image_lines.specs.Fields.{decoded, written, over}
 
 -- digits
 abbrev pub prepend : List ℕ → Option (List ℕ) → Option (List ℕ)
@@ -81,6 +82,88 @@ pub fields-more :
     (l m : List ℕ) (t i p v : ℕ) (o : Option (List ℕ)) → i < length m → bytesOf l ≡ prepend ((t ∷ take i m) ++ (v ∷ [])) o
     → bytesOf l ≡ prepend (t ∷ take (i + 1) (set m i v)) o
 fields-more l m t i p v o h e = rw (add-one i, take-suc-set m i v h) e
+
+-- what was decoded so far, on a line that turns out wrong too
+decoded-two :
+    (l : List ℕ) (p : ℕ) → p + 1 < length l
+    → decoded (drop p l)
+    ≡ cond (ltb (digit (getD l p 0)) 16 && ltb (digit (getD l (p + 1) 0)) 16)
+    ((digit (getD l p 0) * 16 + digit (getD l (p + 1) 0)) ∷ decoded (drop (p + 2) l)) []
+unfolding decoded
+decoded-two l p h =
+    let h₀ : p < length l = omega arith in
+    let h₁ : suc p < length l = omega arith in
+    let e : p + 1 ≡ suc p = omega arith in
+    let e₂ : p + 2 ≡ suc (suc p) = omega arith in
+    rw (e, e₂, drop-cons l p 0 h₀, drop-cons l (suc p) 0 h₁)
+
+module _ (l q : List ℕ) (p : ℕ) (inv : decoded l ≡ q ++ decoded (drop p l)) where
+  pub stops-first : p + 1 < length l → digit (getD l p 0) ≡ 16 → decoded l ≡ q
+  stops-first h e = inv ∙ rw (decoded-two l p h, e, append-nil)
+
+  pub stops-second : p + 1 < length l → digit (getD l (p + 1) 0) ≡ 16 → decoded l ≡ q
+  stops-second h e = inv ∙ rw (decoded-two l p h, e) (none (ltb (digit (getD l p 0)) 16) _)
+    where
+      none : (t : Bool) (b : List ℕ) → q ++ cond (t && false) b [] ≡ q
+      none true b = rw append-nil
+      none false b = rw append-nil
+
+  pub decodes-more : p + 1 < length l → (a b : ℕ) → a ≡ digit (getD l p 0) → b ≡ digit (getD l (p + 1) 0) → a < 16 → b < 16 → decoded l ≡ (q ++ ((a * 16 + b) ∷ [])) ++ decoded (drop (p + 2) l)
+  decodes-more h a b ea eb la lb =
+      inv ∙ rw (decoded-two l p h, ← ea, ← eb, lt-ltb a 16 la, lt-ltb b 16 lb, append-assoc)
+
+  pub decodes-all : p ≡ length l → decoded l ≡ q
+  unfolding decoded
+  decodes-all e =
+      let n : length l ≤ p = omega arith in
+      inv ∙ rw (drop-of-length-le l n, append-nil)
+
+pub decoded-next :
+    (l m : List ℕ) (t i v : ℕ) (o : List ℕ) → i < length m → decoded l ≡ ((t ∷ take i m) ++ (v ∷ [])) ++ o → decoded l ≡ (t ∷ take (i + 1) (set m i v)) ++ o
+decoded-next l m t i v o h e = rw (add-one i, take-suc-set m i v h) e
+
+pub behind-next : (m m₀ : List ℕ) (i v : ℕ) → drop i m ≡ drop i m₀ → drop (i + 1) (set m i v) ≡ drop (i + 1) m₀
+behind-next m m₀ i v e =
+    drop-set-lt (i + 1) m i v (omega arith) ∙ sym (drop-drop 1 i m) ∙ ap (λ (x : List ℕ). drop 1 x) e ∙ drop-drop 1 i m₀
+
+-- what is written of a line, by how it goes
+pub writes-fields :
+    (l m m₀ : List ℕ) (t i : ℕ) → length l ≤ 512 → (length l % 2 ≡ 1 → ⊥) → i ≤ length m → decoded l ≡ t ∷ take i m → drop i m ≡ drop i m₀
+    → m ≡ over (written l) m₀
+unfolding written
+writes-fields l m m₀ t i h even fits d e =
+    let zero-left : length l % 2 ≡ 0 = omega arith in
+    let long : length (take i m) ≡ i = length-take-le i m fits in
+    rw (le-leb (length l) 512 h, zero-left, d, long, ← e) (sym (take-append-drop i m))
+
+pub writes-none : (l m : List ℕ) → decoded l ≡ [] → m ≡ over (written l) m
+unfolding written
+writes-none l m d = rw d (either (leb (length l) 512 && eqb (length l % 2) 0))
+  where
+    either : (t : Bool) → m ≡ over (cond t [] []) m
+    either true = refl
+    either false = refl
+
+pub writes-short : (l m : List ℕ) → length l < 2 → m ≡ over (written l) m
+unfolding decoded
+writes-short [] m h = writes-none [] m refl
+writes-short (a ∷ []) m h = writes-none (a ∷ []) m refl
+writes-short (a ∷ b ∷ r) m h = absurd (long (length r) h)
+  where
+    long : (n : ℕ) → suc (suc n) < 2 → ⊥
+    long n h = omega arith
+
+pub writes-long : (l m : List ℕ) → 512 < length l → m ≡ over (written l) m
+unfolding written
+writes-long l m h = rw (lt-leb (length l) 512 h)
+
+pub writes-odd : (l m : List ℕ) → length l % 2 ≡ 1 → m ≡ over (written l) m
+unfolding written
+writes-odd l m e = rw e (either (leb (length l) 512) (drop 1 (decoded l)))
+  where
+    either : (t : Bool) (b : List ℕ) → m ≡ over (cond (t && false) b []) m
+    either true b = refl
+    either false b = refl
 
 pub line-none : (l : List ℕ) → bytesOf l ≡ none → faulty ≡ lineOf l
 unfolding lineOf

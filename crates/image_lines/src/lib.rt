@@ -4,7 +4,7 @@ ghost use mathlib.Core.Path.{_≡_};
 ghost use Prim.Native.Nat.{ℕ, _+_, _*_, _≤_, _<_};
 ghost use lib.ListN.{length, getD, drop};
 ghost use Rattle.definition.specs.Lines.{digit, lineOf};
-ghost use Rattle.image_lines.specs.Fields.{readOf, ReadFits};
+ghost use Rattle.image_lines.specs.Fields.{readOf, ReadFits, written, over};
 
 // A line: its first byte and how many bytes of fields follow it; or it is at fault with 2.
 pub enum Read {
@@ -46,12 +46,14 @@ pub fn line_end(image: &[u8], at: usize) -> usize
     i
 }
 
-// What the digits of a line are; the fields, the bytes after the first, go to `out`, and nothing behind half as many as the digits is written.
+// What the digits of a line are; the fields, the bytes after the first, go to `out`. Of a line with a wrong digit those before it are written, of
+// one with a wrong number of digits nothing is; the rest of `out` is as it was.
 pub fn read_line(digits: &[u8], out: &mut [u8]) -> Read
     requires { ⌜ length (now digits) ≤ 2 * length (now out) ⌝ }
     ensures says { λ r. ⌜ readOf r (now (out .exit)) ≡ lineOf (now (digits .entry)) ⌝ }
     ensures fits { λ r. ⌜ ReadFits r (length (now (digits .entry))) (length (now (out .entry))) ⌝ }
     ensures behind { λ _. ⌜ ((n : ℕ) → length (now (digits .entry)) ≤ 2 * n → drop n (now (out .exit)) ≡ drop n (now (out .entry))) ⌝ }
+    ensures leaves { λ _. ⌜ now (out .exit) ≡ over (written (now (digits .entry))) (now (out .entry)) ⌝ }
 {
     let size = digits.len();
     if size < 2 {

@@ -1,11 +1,12 @@
 // Records: what the fields of a line say after what was read before it, or the fault 3, 4 or 5.
 // These functions are for `image` alone. What they require, its loop over the lines keeps.
 ghost use mathlib.Core.Path.{_≡_};
-ghost use mathlib.Core.Bool.{_||_};
-ghost use Prim.Native.Nat.{_+_, _*_, _≤_, _<_};
-ghost use lib.ListN.{length, drop};
+ghost use mathlib.Core.Bool.{true, _&&_, _||_};
+ghost use mathlib.Core.List.{List};
+ghost use Prim.Native.Nat.{ℕ, _+_, _*_, _≤_, _<_};
+ghost use lib.ListN.{length, getD, drop};
 ghost use lib.Dec.{ltb, eqb};
-ghost use Rattle.definition.specs.Lines.{numberFrom, printable, takesText, textOf, chunkOf, listed, widthOf, scalar, allowed, takesConstant, constantOf, takesCode, codeLine, codeOf, endOf, recordOf};
+ghost use Rattle.definition.specs.Lines.{judged, constant, numberFrom, printable, takesText, textOf, chunkOf, listed, widthOf, scalar, allowed, takesConstant, constantRuled, constantOf, takesCode, codeLine, codeOf, endOf, recordOf};
 ghost use Rattle.image_records.specs.Records.{partOf, seenOf, says};
 
 // Why an image is refused; specs/Records.antt, `numberOf`, gives document 01's number of each.
@@ -161,6 +162,22 @@ fn plain(b: &[u8]) -> bool
     true
 }
 
+// A line's faults, the lowest number first: out of order, a rule broken, one too many; else it says r.
+fn judge(in_order: bool, ruled: bool, room: bool, r: Record) -> Record
+    ensures { λ o. ⌜ ((b : List ℕ) → says o b ≡ judged in_order ruled room (says r b)) ⌝ }
+{
+    if in_order {
+        if ruled {
+            if room {
+                return r;
+            }
+            return Record::Fault(Reason::TooMany);
+        }
+        return Record::Fault(Reason::BadField); // a rule broken
+    }
+    Record::Fault(Reason::OutOfOrder) // out of order
+}
+
 fn text_record(b: &[u8], s: State) -> Record
     ensures { λ r. ⌜ says r (now (b .entry)) ≡ textOf (seenOf s) (now (b .entry)) ⌝ }
 {
@@ -168,19 +185,7 @@ fn text_record(b: &[u8], s: State) -> Record
     let in_order = takes_text(part);
     let ruled = plain(b);
     let room = s.texts < 256;
-    if in_order {
-        if ruled {
-            if room {
-                return Record::Text;
-            } else {
-                return Record::Fault(Reason::TooMany); // one text too many
-            }
-        } else {
-            return Record::Fault(Reason::BadField); // a byte that is not printable
-        }
-    } else {
-        return Record::Fault(Reason::OutOfOrder);
-    }
+    judge(in_order, ruled, room, Record::Text)
 }
 
 // The top, the first chunk, has arity 0.
@@ -193,28 +198,27 @@ fn arity_fits(chunks: usize, arity: usize) -> bool
     arity == 0
 }
 
+// Whether a chunk's name is a text, and its arity fits.
+fn chunk_fits(texts: usize, chunks: usize, arity: usize, name: usize) -> bool
+    ensures { λ r. ⌜ r ≡ (ltb name texts && (ltb 0 chunks || eqb arity 0)) ⌝ }
+{
+    if name < texts {
+        return arity_fits(chunks, arity);
+    }
+    false
+}
+
 fn chunk_record(b: &[u8], s: State) -> Record
     ensures { λ r. ⌜ says r (now (b .entry)) ≡ chunkOf (seenOf s) (now (b .entry)) ⌝ }
 {
     if b.len() == 3 {
         let arity = wide(b[0]);
         let name = number(b) as usize;
-        if name < s.texts {
-            if arity_fits(s.chunks, arity) {
-                if s.chunks < 64 {
-                    return Record::Opens { arity, name };
-                } else {
-                    return Record::Fault(Reason::TooMany);
-                }
-            } else {
-                return Record::Fault(Reason::BadField);
-            }
-        } else {
-            return Record::Fault(Reason::BadField);
-        }
-    } else {
-        return Record::Fault(Reason::BadField);
+        let ruled = chunk_fits(s.texts, s.chunks, arity, name);
+        let room = s.chunks < 64;
+        return judge(true, ruled, room, Record::Opens { arity, name });
     }
+    Record::Fault(Reason::BadField)
 }
 
 fn is_listed(kind: u8) -> bool
@@ -264,38 +268,35 @@ fn is_allowed(texts: usize, chunks: usize, kind: u8, v: u64) -> bool
     true
 }
 
+// A constant's line that stands in order.
+fn constant_fields(b: &[u8], s: State) -> Record
+    ensures { λ r. ⌜ says r (now (b .entry)) ≡ judged true (constantRuled (seenOf s) (now (b .entry))) (ltb (s .own) 256) (constant (getD (now (b .entry)) 0 0) (numberFrom 0 (drop 1 (now (b .entry))))) ⌝ }
+{
+    if b.len() == 0 {
+        return Record::Fault(Reason::BadField);
+    }
+    let kind = b[0];
+    if is_listed(kind) {
+        let w = width_of(kind);
+        if b.len() == 1 + w {
+            let v = number(b);
+            let ruled = is_allowed(s.texts, s.chunks, kind, v);
+            let room = s.own < 256;
+            return judge(true, ruled, room, Record::Constant { kind, payload: v });
+        }
+        return Record::Fault(Reason::BadField);
+    }
+    Record::Fault(Reason::BadField)
+}
+
 fn constant_record(b: &[u8], s: State) -> Record
     ensures { λ r. ⌜ says r (now (b .entry)) ≡ constantOf (seenOf s) (now (b .entry)) ⌝ }
 {
     let part = s.part;
     if takes_constant(part) {
-        if 0 < b.len() {
-            let kind = b[0];
-            if is_listed(kind) {
-                let w = width_of(kind);
-                if b.len() == 1 + w {
-                    let v = number(b);
-                    if is_allowed(s.texts, s.chunks, kind, v) {
-                        if s.own < 256 {
-                            return Record::Constant { kind, payload: v };
-                        } else {
-                            return Record::Fault(Reason::TooMany);
-                        }
-                    } else {
-                        return Record::Fault(Reason::BadField);
-                    }
-                } else {
-                    return Record::Fault(Reason::BadField);
-                }
-            } else {
-                return Record::Fault(Reason::BadField);
-            }
-        } else {
-            return Record::Fault(Reason::BadField);
-        }
-    } else {
-        return Record::Fault(Reason::OutOfOrder);
+        return constant_fields(b, s);
     }
+    Record::Fault(Reason::OutOfOrder)
 }
 
 // A code line is judged from its own bytes and `before`, how many code bytes the open chunk has so far.
@@ -304,23 +305,14 @@ fn code_line(in_order: bool, before: usize, b: &[u8]) -> Record
     ensures { λ r. ⌜ says r (now (b .entry)) ≡ codeLine in_order before (now (b .entry)) ⌝ }
 {
     let n = b.len();
-    if in_order {
-        if 1 <= n {
-            if n <= 64 {
-                if before + n <= 4096 {
-                    return Record::Code;
-                } else {
-                    return Record::Fault(Reason::TooMany);
-                }
-            } else {
-                return Record::Fault(Reason::BadField);
-            }
-        } else {
-            return Record::Fault(Reason::BadField);
-        }
-    } else {
-        return Record::Fault(Reason::OutOfOrder);
+    if n == 0 {
+        return judge(in_order, false, true, Record::Code);
     }
+    if 64 < n {
+        return judge(in_order, false, true, Record::Code);
+    }
+    let room = before + n <= 4096;
+    judge(in_order, true, room, Record::Code)
 }
 
 fn code_record(b: &[u8], s: State) -> Record
@@ -334,15 +326,9 @@ fn code_record(b: &[u8], s: State) -> Record
 fn end_record(b: &[u8], s: State) -> Record
     ensures { λ r. ⌜ says r (now (b .entry)) ≡ endOf (seenOf s) (now (b .entry)) ⌝ }
 {
-    if 0 < s.chunks {
-        if b.len() == 0 {
-            return Record::Ends;
-        } else {
-            return Record::Fault(Reason::BadField);
-        }
-    } else {
-        return Record::Fault(Reason::OutOfOrder);
-    }
+    let in_order = 0 < s.chunks;
+    let ruled = b.len() == 0;
+    judge(in_order, ruled, true, Record::Ends)
 }
 
 // What a line with first byte `tag` and fields `b` says after what was read before it.

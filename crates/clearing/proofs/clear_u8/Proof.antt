@@ -1,50 +1,16 @@
+-- `clear_u8`: the loop of Cleared.antt.
+use native.Mathlib.Omega.{arith}
+use Prim.Native.Nat.{_-_}
+use lib.ListN.{length, length-set}
+use Rattle.clearing.proofs.Cleared.{ClearedTo, none-cleared, one-more, all-cleared}
 use Rattle.clearing.proofs.clear_u8.Statement.{statement}
 use Rattle.clearing.proofs.clear_u8.Tie as tie
-use native.Mathlib.Omega.{arith}
-use mathlib.Core.Path.{refl, _∙_}
-use borrow.Author.Needs.{scaled-fits}
-use mathlib.Core.Path.{_≡_}
-use mathlib.Core.Logic.{⊎-elim}
-use Prim.Native.Nat.{ℕ, _-_, _≤_, _<_}
-use native.Mathlib.Nat.{not-suc-le-zero}
-use lib.ListN.{length, getD, length-set, List·getD-eq-default}
-use lib.Seq.{getD-set-same, getD-set-other}
-use Rattle.clearing.proofs.Orders.{below-next, below-or}
 
 abbrev Inv-loop : tie.InvT-loop
-Inv-loop a₀ i₀ a i = (length a ≡ length a₀) × (i ≤ length a) × ((j : ℕ) → j < i → getD a j 0 ≡ 0)
+Inv-loop a₀ i₀ a i = ClearedTo a₀ a i
 
 abbrev μ-loop : tie.MeasureT-loop
 μ-loop a₀ i₀ a i = length a - i
-
-loop-holds : tie.Need-loop-holds Inv-loop μ-loop
-loop-holds c = (refl, omega arith, λ j l. absurd (not-suc-le-zero l))
-
-slice-write-a : tie.Need-slice-write-a Inv-loop μ-loop
-slice-write-a c = omega arith
-
-add-i : tie.Need-add-i Inv-loop μ-loop
-add-i c = omega arith
-
-loop-less : tie.Need-loop-less Inv-loop μ-loop
-loop-less c = simp length-set (omega arith)
-
-loop-again : tie.Need-loop-again Inv-loop μ-loop
-loop-again c = (
-  simp length-set (c .before .loop .inv .0),
-  simp length-set (omega arith),
-  λ j l.
-      ⊎-elim
-      (λ m. getD-set-other (c .before .loop .a) (c .before .loop .i) j 0 0 (λ e. omega arith) ∙ (c .before .loop .inv .2) j m)
-      (λ e. rw e (getD-set-same (c .before .loop .a) (c .before .loop .i) 0 0 (omega arith)))
-      (below-next j (c .before .loop .i) l),
-)
-
-same-length : tie.Need-same-length Inv-loop μ-loop
-same-length c = (c .before .loop .inv .0)
-
-returns : tie.Need-returns Inv-loop μ-loop
-returns c = λ j. ⊎-elim (λ m. (c .before .loop .inv .2) j m) (λ m. List·getD-eq-default (c .before .loop .a) 0 {n = j} (omega arith)) (below-or j (c .before .loop .i))
 
 pub clear-u8-spec : {M : Type 1} → statement M
 clear-u8-spec =
@@ -52,10 +18,10 @@ clear-u8-spec =
     (tie.spec
     Inv-loop
     μ-loop
-    loop-holds
-    slice-write-a
-    add-i
-    loop-less
-    loop-again
-    same-length
-    returns)
+    (λ c. none-cleared (c .args .a .now))
+    (λ c. omega arith)
+    (λ c. omega arith)
+    (λ c. simp length-set (omega arith))
+    (λ c. one-more (c .before .before .args .a .now) (c .before .loop .a) (c .before .loop .i) (c .before .loop .inv) (omega arith))
+    (λ c. c .before .loop .inv .0)
+    (λ c. all-cleared (c .before .before .args .a .now) (c .before .loop .a) (c .before .loop .i) (c .before .loop .inv) (omega arith)))

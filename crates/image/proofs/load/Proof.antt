@@ -23,8 +23,8 @@ returns-5 c = loads-short (c .before .before .before .before .before .before .be
 returns-6 : tie.Need-returns-6
 returns-6 c = loads-long (c .before .before .before .before .before .before .before .before .before .before .before .before .args .image .now) _ (record { room-bytes = (c .before .before .before .before .before .if1 .left); room-ends = (c .before .before .before .before .if2 .left); room-kinds = (c .before .before .before .if3 .left); room-payloads = (c .before .before .if4 .left); room-table = (c .before .if5 .left) }) (c .if6 .taken)
 
-load-lines-requires : tie.Need-load-lines-requires
-load-lines-requires c κs = ((c .before .before .before .before .before .if6 .left), (record { room-bytes = (c .before .before .before .before .before .before .before .before .before .before .if1 .left); room-ends = (c .before .before .before .before .before .before .before .before .before .if2 .left); room-kinds = (c .before .before .before .before .before .before .before .before .if3 .left); room-payloads = (c .before .before .before .before .before .before .before .if4 .left); room-table = (c .before .before .before .before .before .before .if5 .left) }))
+load-roomy-requires : tie.Need-load-roomy-requires
+load-roomy-requires c κs = ((c .before .before .before .before .before .if6 .left), (record { room-bytes = (c .before .before .before .before .before .before .before .before .before .before .if1 .left); room-ends = (c .before .before .before .before .before .before .before .before .before .if2 .left); room-kinds = (c .before .before .before .before .before .before .before .before .if3 .left); room-payloads = (c .before .before .before .before .before .before .before .if4 .left); room-table = (c .before .before .before .before .before .before .if5 .left) }))
 
 same-length : tie.Need-same-length
 same-length c = search needs
@@ -42,7 +42,7 @@ same-length-5 : tie.Need-same-length-5
 same-length-5 c = search needs
 
 returns-7 : tie.Need-returns-7
-returns-7 c = loads-whole (c .before .before .before .before .before .before .before .before .before .before .before .before .before .before .before .before .before .before .before .before .before .before .before .before .before .before .before .before .args .image .now) _ _ _ (record { room-bytes = (c .before .before .before .before .before .before .before .before .before .before .before .before .before .before .before .before .before .before .before .before .before .if1 .left); room-ends = (c .before .before .before .before .before .before .before .before .before .before .before .before .before .before .before .before .before .before .before .before .if2 .left); room-kinds = (c .before .before .before .before .before .before .before .before .before .before .before .before .before .before .before .before .before .before .before .if3 .left); room-payloads = (c .before .before .before .before .before .before .before .before .before .before .before .before .before .before .before .before .before .before .if4 .left); room-table = (c .before .before .before .before .before .before .before .before .before .before .before .before .before .before .before .before .before .if5 .left) }) (c .before .before .before .before .before .before .before .before .before .before .before .before .before .before .before .before .if6 .left) (same-load (c .before .before .before .before .before .before .before .before .before .before .before .before .before .before .before .before .before .before .before .before .before .before .before .before .before .before .before .before .args .image .now)) (c .before .before .before .before .before .before .before .before .before .before .load-lines .ensures)
+returns-7 c = loads-whole (c .before .before .before .before .before .before .before .before .before .before .before .before .before .before .before .before .before .before .before .before .before .before .before .before .before .before .before .before .args .image .now) _ _ _ (record { room-bytes = (c .before .before .before .before .before .before .before .before .before .before .before .before .before .before .before .before .before .before .before .before .before .if1 .left); room-ends = (c .before .before .before .before .before .before .before .before .before .before .before .before .before .before .before .before .before .before .before .before .if2 .left); room-kinds = (c .before .before .before .before .before .before .before .before .before .before .before .before .before .before .before .before .before .before .before .if3 .left); room-payloads = (c .before .before .before .before .before .before .before .before .before .before .before .before .before .before .before .before .before .before .if4 .left); room-table = (c .before .before .before .before .before .before .before .before .before .before .before .before .before .before .before .before .before .if5 .left) }) (c .before .before .before .before .before .before .before .before .before .before .before .before .before .before .before .before .if6 .left) (same-load (c .before .before .before .before .before .before .before .before .before .before .before .before .before .before .before .before .before .before .before .before .before .before .before .before .before .before .before .before .args .image .now)) (c .before .before .before .before .before .before .before .before .before .before .load-roomy .ensures)
 
 pub load-spec : {M : Type 1} → statement M
 load-spec =
@@ -54,7 +54,7 @@ load-spec =
     returns-4
     returns-5
     returns-6
-    load-lines-requires
+    load-roomy-requires
     same-length
     same-length-2
     same-length-3

@@ -1,28 +1,31 @@
+-- The digits up to the loop's place are decoded into `out`, and the rest of `out` is as it was: so at every way out, on a wrong digit too.
 use Rattle.image_lines.proofs.read_line.Statement.{statement}
 use Rattle.image_lines.proofs.read_line.Tie as tie
 use native.Mathlib.Omega.{arith}
 use mathlib.Core.Path.{_≡_, refl, _∙_, sym}
-use mathlib.Core.List.{[], _∷_}
-use Prim.Native.Nat.{ℕ, _+_, _*_, _-_, _≤_}
+use mathlib.Core.List.{[], _∷_, _++_}
+use Prim.Native.Nat.{ℕ, _+_, _*_, _-_, _≤_, _<_}
 use lib.ListN.{length, take, drop, length-set}
 use lib.Seq.{drop-set-lt}
 use Rattle.definition.specs.Lines.{bytesOf}
 use Rattle.image_lines.proofs.Digits.{prepend, pair-left, decode-first, decode-second, decode-more, decode-done, whole, fields-more, line-none, line-some, line-odd, line-long, line-short}
+use Rattle.image_lines.proofs.Digits.{stops-first, stops-second, decodes-more, decodes-all, decoded-next, behind-next, writes-fields, writes-none, writes-short, writes-long, writes-odd}
+use Rattle.image_lines.specs.Fields.{decoded}
 
 abbrev Inv-loop : tie.InvT-loop
-Inv-loop digits out₀ size a b tag i₀ p₀ out i p = (length out ≡ length out₀) × (2 * i + 2 ≡ p) × (p ≤ length digits) × (bytesOf digits ≡ prepend (tag ∷ take i out) (bytesOf (drop p digits))) × ((n : ℕ) → length digits ≤ 2 * n → drop n out ≡ drop n out₀)
+Inv-loop digits out₀ size a b tag i₀ p₀ out i p = (length out ≡ length out₀) × (2 * i + 2 ≡ p) × (p ≤ length digits) × (bytesOf digits ≡ prepend (tag ∷ take i out) (bytesOf (drop p digits))) × ((n : ℕ) → length digits ≤ 2 * n → drop n out ≡ drop n out₀) × (decoded digits ≡ (tag ∷ take i out) ++ decoded (drop p digits)) × (drop i out ≡ drop i out₀)
 
 abbrev μ-loop : tie.MeasureT-loop
 μ-loop digits out₀ size a b tag i₀ p₀ out i p = length digits - p
 
 returns : tie.Need-returns Inv-loop μ-loop
-returns c = (line-short _ (c .if1 .taken), (tt, λ n h. refl))
+returns c = (line-short _ (c .if1 .taken), (tt, (λ n h. refl, writes-short _ _ (c .if1 .taken))))
 
 returns-2 : tie.Need-returns-2 Inv-loop μ-loop
-returns-2 c = (line-long _ (c .if2 .taken), (tt, λ n h. refl))
+returns-2 c = (line-long _ (c .if2 .taken), (tt, (λ n h. refl, writes-long _ _ (c .if2 .taken))))
 
 returns-3 : tie.Need-returns-3 Inv-loop μ-loop
-returns-3 c = (line-odd _ (c .if3 .taken), (tt, λ n h. refl))
+returns-3 c = (line-odd _ (c .if3 .taken), (tt, (λ n h. refl, writes-odd _ _ (c .if3 .taken))))
 
 shared-slice-read-hex : tie.Need-shared-slice-read-hex Inv-loop μ-loop
 shared-slice-read-hex c = omega arith
@@ -31,7 +34,10 @@ hex-requires : tie.Need-hex-requires Inv-loop μ-loop
 hex-requires c κs = tt
 
 returns-4 : tie.Need-returns-4 Inv-loop μ-loop
-returns-4 c = (line-none _ (decode-first (c .before .before .before .before .before .before .before .before .args .digits .now) [] 0 (whole _) (omega arith) (sym (c .before .hex .ensures .0) ∙ (c .if4 .taken))), (tt, λ n h. refl))
+returns-4 c =
+    let digits = c .before .before .before .before .before .before .before .before .args .digits .now in
+    let bad = sym (c .before .hex .ensures .0) ∙ c .if4 .taken in
+    (line-none _ (decode-first digits [] 0 (whole _) (omega arith) bad), (tt, (λ n h. refl, writes-none _ _ (stops-first digits [] 0 refl (omega arith) bad))))
 
 shared-slice-read-hex-2 : tie.Need-shared-slice-read-hex-2 Inv-loop μ-loop
 shared-slice-read-hex-2 c = omega arith
@@ -40,7 +46,10 @@ hex-requires-2 : tie.Need-hex-requires-2 Inv-loop μ-loop
 hex-requires-2 c κs = tt
 
 returns-5 : tie.Need-returns-5 Inv-loop μ-loop
-returns-5 c = (line-none _ (decode-second (c .before .before .before .before .before .before .before .before .before .before .before .args .digits .now) [] 0 (whole _) (omega arith) (sym (c .before .hex2 .ensures .0) ∙ (c .if5 .taken))), (tt, λ n h. refl))
+returns-5 c =
+    let digits = c .before .before .before .before .before .before .before .before .before .before .before .args .digits .now in
+    let bad = sym (c .before .hex2 .ensures .0) ∙ c .if5 .taken in
+    (line-none _ (decode-second digits [] 0 (whole _) (omega arith) bad), (tt, (λ n h. refl, writes-none _ _ (stops-second digits [] 0 refl (omega arith) bad))))
 
 mul-tag : tie.Need-mul-tag Inv-loop μ-loop
 mul-tag c = omega arith
@@ -49,7 +58,18 @@ add-tag : tie.Need-add-tag Inv-loop μ-loop
 add-tag c = omega arith
 
 loop-holds : tie.Need-loop-holds Inv-loop μ-loop
-loop-holds c = (refl, refl, omega arith, decode-more (c .before .before .before .before .before .before .before .before .before .before .before .args .digits .now) [] 0 (whole _) (omega arith) _ _ (c .before .before .before .before .hex .ensures .0) (c .before .hex2 .ensures .0) (omega arith) (omega arith), λ n h. refl)
+loop-holds c =
+    let digits = c .before .before .before .before .before .before .before .before .before .before .before .args .digits .now in
+    let first = c .before .before .before .before .hex .ensures .0 in
+    let second = c .before .hex2 .ensures .0 in (
+      refl,
+      refl,
+      omega arith,
+      decode-more digits [] 0 (whole _) (omega arith) _ _ first second (omega arith) (omega arith),
+      λ n h. refl,
+      decodes-more digits [] 0 refl (omega arith) _ _ first second (omega arith) (omega arith),
+      refl,
+    )
 
 shared-slice-read-hex-3 : tie.Need-shared-slice-read-hex-3 Inv-loop μ-loop
 shared-slice-read-hex-3 c = omega arith
@@ -62,8 +82,23 @@ same-length c = (c .before .before .before .before .loop .inv .0)
 
 returns-6 : tie.Need-returns-6 Inv-loop μ-loop
 returns-6 c =
-    let two = pair-left (length (c .before .before .before .before .before .before .before .before .before .before .before .before .before .before .before .before .args .digits .now)) (c .before .before .before .before .loop .i) (c .before .before .before .before .loop .p) (c .before .before .before .before .before .before .before .before .before .before .before .if3 .left) (c .before .before .before .before .loop .inv .1) (c .before .before .before .loop-test .taken) in
-    (line-none _ (decode-first (c .before .before .before .before .before .before .before .before .before .before .before .before .before .before .before .before .args .digits .now) (_ ∷ take (c .before .before .before .before .loop .i) (c .before .before .before .before .loop .out)) (c .before .before .before .before .loop .p) (c .before .before .before .before .loop .inv .3) two (sym (c .before .hex3 .ensures .0) ∙ (c .if6 .taken))), (tt, (c .before .before .before .before .loop .inv .4)))
+    let args = c .before .before .before .before .before .before .before .before .before .before .before .before .before .before .before .before .args in
+    let loop = c .before .before .before .before .loop in
+    let even = c .before .before .before .before .before .before .before .before .before .before .before .if3 .left in
+    let two = pair-left (length (args .digits .now)) (loop .i) (loop .p) even (loop .inv .1) (c .before .before .before .loop-test .taken) in
+    let wrong = sym (c .before .hex3 .ensures .0) ∙ c .if6 .taken in
+    let tag = (c .before .before .before .before .before .before .before .before .before .hex .result) * 16 + c .before .before .before .before .before .before .hex2 .result in
+    let so-far = tag ∷ take (loop .i) (loop .out) in (
+      line-none _ (decode-first (args .digits .now) so-far (loop .p) (loop .inv .3) two wrong),
+      (
+        tt,
+        (
+          loop .inv .4,
+          writes-fields (args .digits .now) (loop .out) (args .out .now) tag (loop .i) (c .before .before .before .before .before .before .before .before .before .before .before .before .if2 .left) even (omega (arith, c .before .before .before .before .before .before .before .before .before .before .before .before .before .before .before .before .pre))
+              (stops-first (args .digits .now) so-far (loop .p) (loop .inv .5) two wrong) (loop .inv .6),
+        ),
+      ),
+    )
 
 add-hex : tie.Need-add-hex Inv-loop μ-loop
 add-hex c = omega arith
@@ -79,8 +114,23 @@ same-length-2 c = (c .before .before .before .before .before .before .before .lo
 
 returns-7 : tie.Need-returns-7 Inv-loop μ-loop
 returns-7 c =
-    let two = pair-left (length (c .before .before .before .before .before .before .before .before .before .before .before .before .before .before .before .before .before .before .before .args .digits .now)) (c .before .before .before .before .before .before .before .loop .i) (c .before .before .before .before .before .before .before .loop .p) (c .before .before .before .before .before .before .before .before .before .before .before .before .before .before .if3 .left) (c .before .before .before .before .before .before .before .loop .inv .1) (c .before .before .before .before .before .before .loop-test .taken) in
-    (line-none _ (decode-second (c .before .before .before .before .before .before .before .before .before .before .before .before .before .before .before .before .before .before .before .args .digits .now) (_ ∷ take (c .before .before .before .before .before .before .before .loop .i) (c .before .before .before .before .before .before .before .loop .out)) (c .before .before .before .before .before .before .before .loop .p) (c .before .before .before .before .before .before .before .loop .inv .3) two (sym (c .before .hex4 .ensures .0) ∙ (c .if7 .taken))), (tt, (c .before .before .before .before .before .before .before .loop .inv .4)))
+    let args = c .before .before .before .before .before .before .before .before .before .before .before .before .before .before .before .before .before .before .before .args in
+    let loop = c .before .before .before .before .before .before .before .loop in
+    let even = c .before .before .before .before .before .before .before .before .before .before .before .before .before .before .if3 .left in
+    let two = pair-left (length (args .digits .now)) (loop .i) (loop .p) even (loop .inv .1) (c .before .before .before .before .before .before .loop-test .taken) in
+    let wrong = sym (c .before .hex4 .ensures .0) ∙ c .if7 .taken in
+    let tag = (c .before .before .before .before .before .before .before .before .before .before .before .before .hex .result) * 16 + c .before .before .before .before .before .before .before .before .before .hex2 .result in
+    let so-far = tag ∷ take (loop .i) (loop .out) in (
+      line-none _ (decode-second (args .digits .now) so-far (loop .p) (loop .inv .3) two wrong),
+      (
+        tt,
+        (
+          loop .inv .4,
+          writes-fields (args .digits .now) (loop .out) (args .out .now) tag (loop .i) (c .before .before .before .before .before .before .before .before .before .before .before .before .before .before .before .if2 .left) even (omega (arith, c .before .before .before .before .before .before .before .before .before .before .before .before .before .before .before .before .before .before .before .pre))
+              (stops-second (args .digits .now) so-far (loop .p) (loop .inv .5) two wrong) (loop .inv .6),
+        ),
+      ),
+    )
 
 mul-out : tie.Need-mul-out Inv-loop μ-loop
 mul-out c = omega arith
@@ -102,14 +152,46 @@ loop-less c = omega arith
 
 loop-again : tie.Need-loop-again Inv-loop μ-loop
 loop-again c =
-    let two = pair-left (length (c .before .before .before .before .before .before .before .before .before .before .before .before .before .before .before .before .before .before .before .args .digits .now)) (c .before .before .before .before .before .before .before .loop .i) (c .before .before .before .before .before .before .before .loop .p) (c .before .before .before .before .before .before .before .before .before .before .before .before .before .before .if3 .left) (c .before .before .before .before .before .before .before .loop .inv .1) (c .before .before .before .before .before .before .loop-test .taken) in
-    (simp length-set (c .before .before .before .before .before .before .before .loop .inv .0), omega arith, omega arith, fields-more (c .before .before .before .before .before .before .before .before .before .before .before .before .before .before .before .before .before .before .before .args .digits .now) (c .before .before .before .before .before .before .before .loop .out) ((c .before .before .before .before .before .before .before .before .before .before .before .before .hex .result) * 16 + (c .before .before .before .before .before .before .before .before .before .hex2 .result)) (c .before .before .before .before .before .before .before .loop .i) 0 ((c .before .before .before .before .hex3 .result) * 16 + (c .before .hex4 .result)) (bytesOf (drop ((c .before .before .before .before .before .before .before .loop .p) + 2) (c .before .before .before .before .before .before .before .before .before .before .before .before .before .before .before .before .before .before .before .args .digits .now))) (omega (arith, (c .before .before .before .before .before .before .before .before .before .before .before .before .before .before .before .before .before .before .before .pre))) (decode-more (c .before .before .before .before .before .before .before .before .before .before .before .before .before .before .before .before .before .before .before .args .digits .now) (_ ∷ take (c .before .before .before .before .before .before .before .loop .i) (c .before .before .before .before .before .before .before .loop .out)) (c .before .before .before .before .before .before .before .loop .p) (c .before .before .before .before .before .before .before .loop .inv .3) two _ _ (c .before .before .before .before .hex3 .ensures .0) (c .before .hex4 .ensures .0) (omega arith) (omega arith)), λ n h. drop-set-lt n (c .before .before .before .before .before .before .before .loop .out) (c .before .before .before .before .before .before .before .loop .i) _ (omega arith) ∙ (c .before .before .before .before .before .before .before .loop .inv .4) n h)
+    let args = c .before .before .before .before .before .before .before .before .before .before .before .before .before .before .before .before .before .before .before .args in
+    let loop = c .before .before .before .before .before .before .before .loop in
+    let two = pair-left (length (args .digits .now)) (loop .i) (loop .p) (c .before .before .before .before .before .before .before .before .before .before .before .before .before .before .if3 .left) (loop .inv .1) (c .before .before .before .before .before .before .loop-test .taken) in
+    let tag = (c .before .before .before .before .before .before .before .before .before .before .before .before .hex .result) * 16 + c .before .before .before .before .before .before .before .before .before .hex2 .result in
+    let byte = (c .before .before .before .before .hex3 .result) * 16 + c .before .hex4 .result in
+    let first = c .before .before .before .before .hex3 .ensures .0 in
+    let second = c .before .hex4 .ensures .0 in
+    let room : loop .i < length (loop .out) = omega (arith, c .before .before .before .before .before .before .before .before .before .before .before .before .before .before .before .before .before .before .before .pre) in
+    let so-far = tag ∷ take (loop .i) (loop .out) in (
+      simp length-set (loop .inv .0),
+      omega arith,
+      omega arith,
+      fields-more (args .digits .now) (loop .out) tag (loop .i) 0 byte (bytesOf (drop (loop .p + 2) (args .digits .now))) room
+          (decode-more (args .digits .now) so-far (loop .p) (loop .inv .3) two _ _ first second (omega arith) (omega arith)),
+      λ n h. drop-set-lt n (loop .out) (loop .i) _ (omega arith) ∙ (loop .inv .4) n h,
+      decoded-next (args .digits .now) (loop .out) tag (loop .i) byte (decoded (drop (loop .p + 2) (args .digits .now))) room
+          (decodes-more (args .digits .now) so-far (loop .p) (loop .inv .5) two _ _ first second (omega arith) (omega arith)),
+      behind-next (loop .out) (args .out .now) (loop .i) _ (loop .inv .6),
+    )
 
 same-length-3 : tie.Need-same-length-3 Inv-loop μ-loop
 same-length-3 c = (c .before .loop .inv .0)
 
 returns-8 : tie.Need-returns-8 Inv-loop μ-loop
-returns-8 c = (line-some _ _ _ (c .before .before .before .before .before .before .before .before .before .if2 .left) (decode-done (c .before .before .before .before .before .before .before .before .before .before .before .before .before .args .digits .now) (_ ∷ take (c .before .loop .i) (c .before .loop .out)) (c .before .loop .p) (c .before .loop .inv .3) (omega arith)), ((omega (arith, (c .before .before .before .before .before .before .before .before .before .before .before .before .before .pre)), omega arith), (c .before .loop .inv .4)))
+returns-8 c =
+    let args = c .before .before .before .before .before .before .before .before .before .before .before .before .before .args in
+    let loop = c .before .loop in
+    let short = c .before .before .before .before .before .before .before .before .before .if2 .left in
+    let tag = (c .before .before .before .before .before .before .hex .result) * 16 + c .before .before .before .hex2 .result in
+    let so-far = tag ∷ take (loop .i) (loop .out) in (
+      line-some _ _ _ short (decode-done (args .digits .now) so-far (loop .p) (loop .inv .3) (omega arith)),
+      (
+        (omega (arith, c .before .before .before .before .before .before .before .before .before .before .before .before .before .pre), omega arith),
+        (
+          loop .inv .4,
+          writes-fields (args .digits .now) (loop .out) (args .out .now) tag (loop .i) short (c .before .before .before .before .before .before .before .before .if3 .left) (omega (arith, c .before .before .before .before .before .before .before .before .before .before .before .before .before .pre))
+              (decodes-all (args .digits .now) so-far (loop .p) (loop .inv .5) (omega arith)) (loop .inv .6),
+        ),
+      ),
+    )
 
 pub read-line-spec : {M : Type 1} → statement M
 read-line-spec =

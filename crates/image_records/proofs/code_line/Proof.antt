@@ -1,31 +1,42 @@
+-- By the number of bytes, which the definition tests in the same way.
 use borrow.Author.Needs.{needs}
 use Rattle.image_records.proofs.code_line.Statement.{statement}
 use Rattle.image_records.proofs.code_line.Tie as tie
+use mathlib.Core.Path.{_∙_}
+use Prim.Native.Nat.{_≤_}
+use native.Mathlib.Omega.{arith}
+use lib.ListN.{length}
 use borrow.Author.Tests.{le-leb, lt-leb}
 use Rattle.definition.specs.Lines.{codeLine}
 
-add-if4 : tie.Need-add-if4
-add-if4 c = search needs
+judge-requires : tie.Need-judge-requires
+judge-requires c κs = search needs
 
 returns : tie.Need-returns
 unfolding codeLine
-returns c = simp ((c .before .before .before .if1 .taken), le-leb _ _ (c .before .before .if2 .taken), le-leb _ _ (c .before .if3 .taken), le-leb _ _ (c .if4 .taken))
+returns c = (c .judge .ensures) (c .before .before .before .args .b .now) ∙ simp (c .before .if1 .taken)
+
+judge-requires-2 : tie.Need-judge-requires-2
+judge-requires-2 c κs = search needs
 
 returns-2 : tie.Need-returns-2
 unfolding codeLine
-returns-2 c = simp ((c .before .before .before .if1 .taken), le-leb _ _ (c .before .before .if2 .taken), le-leb _ _ (c .before .if3 .taken), lt-leb _ _ (c .if4 .left))
+returns-2 c =
+    let some : 1 ≤ length (c .before .before .before .before .args .b .now) = omega (arith, c .before .before .if1 .left) in
+    (c .judge2 .ensures) (c .before .before .before .before .args .b .now) ∙ simp (le-leb _ _ some, lt-leb _ _ (c .before .if2 .taken))
+
+add-room : tie.Need-add-room
+unfolding codeLine
+add-room c = omega arith
+
+judge-requires-3 : tie.Need-judge-requires-3
+judge-requires-3 c κs = search needs
 
 returns-3 : tie.Need-returns-3
 unfolding codeLine
-returns-3 c = simp ((c .before .before .if1 .taken), le-leb _ _ (c .before .if2 .taken), lt-leb _ _ (c .if3 .left))
-
-returns-4 : tie.Need-returns-4
-unfolding codeLine
-returns-4 c = simp ((c .before .if1 .taken), lt-leb _ _ (c .if2 .left))
-
-returns-5 : tie.Need-returns-5
-unfolding codeLine
-returns-5 c = simp (c .if1 .left)
+returns-3 c =
+    let some : 1 ≤ length (c .before .before .before .before .args .b .now) = omega (arith, c .before .before .if1 .left) in
+    (c .judge3 .ensures) (c .before .before .before .before .args .b .now) ∙ simp (le-leb _ _ some, le-leb _ _ (c .before .if2 .left))
 
 pub code-line-spec : {M : Type 1} → statement M
-code-line-spec = tie.close (tie.spec add-if4 returns returns-2 returns-3 returns-4 returns-5)
+code-line-spec = tie.close (tie.spec judge-requires returns judge-requires-2 returns-2 add-room judge-requires-3 returns-3)
