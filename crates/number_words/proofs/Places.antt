@@ -2,28 +2,55 @@
 -- bits. Assumes nothing.
 use mathlib.Core.Path.{_≡_, refl, sym, ap, _∙_, subst}
 use mathlib.Core.Bool.{Bool, true, false, not, cond, Bool·beq}
+use mathlib.Core.List.{List, [], _∷_}
 use mathlib.Core.Logic.{_⊎_, inl, inr, ⊎-elim}
 use Prim.Native.Nat.{ℕ, zero, suc, _+_, _-_, _*_, _%_, _^_, _<_, _≤_}
 use native.Mathlib.Omega.{arith}
 use native.Mathlib.Nat.{mod-eq-of-lt, pow-suc, mul-le-mul, lt-of-le-of-lt}
-use lib.Dec.{T, leb, ltb, lit<, ltb→lt, nltb→le}
+use lib.Dec.{T, eqb, leb, ltb, lit<, ltb→lt, nltb→le}
 use lib.Ieee.{unlike}
 use lib.IntN.{ℤ, pos, negsuc, negℤ, subℕ, _+ℤ_, _-ℤ_, _*ℤ_}
 use lib.Signed.{ltZ}
-use borrow.Author.Tests.{lt-ltb, le-ltb, le-leb, lt-leb}
+use borrow.Author.Tests.{lt-ltb, le-ltb, le-leb, lt-leb, ne-eqb, eqb-true}
 use Rattle.numbers.specs.declared.Number.the-variants.{UInt}
 use Rattle.numbers.specs.declared.NumberAnswer.{NumberAnswer}
 use Rattle.numbers.specs.declared.NumberAnswer.the-variants.{Value, Overflow}
 use Rattle.numbers.specs.declared.IntKind.{IntKind}
 use Rattle.numbers.specs.declared.IntKind.the-variants.{I64, U64, I32, U32, U8, I8, U16, I16}
-use Rattle.numbers.specs.Kinds.{leastMagnitude, greatest, inRange, asKind, twosComplement, wrapping}
+use Rattle.numbers.specs.Kinds.{intKindCode, leastMagnitude, greatest, inRange, asKind, twosComplement, wrapping}
 use Rattle.numbers.proofs.Sums.{product, sum-other, sum-other'}
 use Rattle.numbers.proofs.Ranges.{in-range-neg}
 use Rattle.number_arithmetic.proofs.Native.{sub-ind}
 use Rattle.numbers.specs.Answers.{pick}
 use Rattle.numbers.specs.Arithmetic.{checked}
 use Rattle.number_words.specs.declared.NarrowKind.{NarrowKind}
-use Rattle.number_words.specs.Words.{turn, signed, IsOf}
+use Rattle.number_words.specs.Words.{numbersOf, narrowKinds, kindAmong, narrowKind, turn, signed, IsOf}
+
+-- ---- the kind of a code
+pub no-kind : {code : ℕ} → (code ≡ 3 → ⊥) → (code ≡ 4 → ⊥) → (code ≡ 10 → ⊥) → (code ≡ 11 → ⊥) → (code ≡ 12 → ⊥) → (code ≡ 13 → ⊥) → record { numbers = 0; negatives = 0 } ≡ narrowKind code
+unfolding narrowKind
+no-kind {code} a b c d e f = simp (ne-eqb code 3 a, ne-eqb code 4 b, ne-eqb code 10 c, ne-eqb code 11 d, ne-eqb code 12 e, ne-eqb code 13 f)
+
+-- where a kind has numbers, it is the one of the code
+abbrev pub KindOf : ℕ → NarrowKind → Type 0
+KindOf code n = (k : IntKind) × (intKindCode k ≡ code) × IsOf k n
+
+abbrev Narrow : List IntKind → Type 0
+Narrow [] = Unit {0}
+Narrow (k ∷ ks) = (((leastMagnitude k ≡ 0) ⊎ (leastMagnitude k + leastMagnitude k ≡ leastMagnitude k + suc (greatest k))) × (leastMagnitude k + suc (greatest k) ≤ 4294967296)) × Narrow ks
+
+among : (ks : List IntKind) (code : ℕ) → Narrow ks → 0 < kindAmong ks code .numbers → KindOf code (kindAmong ks code)
+among [] code n l = let z : ⊥ = omega arith in absurd z
+among (k ∷ ks) code n l = go (among ks code (n .1)) (eqb code (intKindCode k)) (eqb-true code (intKindCode k)) l
+  where
+    go : (0 < kindAmong ks code .numbers → KindOf code (kindAmong ks code)) → (t : Bool) → (t ≡ true → code ≡ intKindCode k) → 0 < cond t (numbersOf k) (kindAmong ks code) .numbers
+        → KindOf code (cond t (numbersOf k) (kindAmong ks code))
+    go g true e l = (k, sym (e refl), record { negatives = refl; numbers = refl; balanced = n .0 .0; few = n .0 .1 })
+    go g false e l = g l
+
+pub of-code : (code : ℕ) → 0 < narrowKind code .numbers → KindOf code (narrowKind code)
+unfolding narrowKind
+of-code code l = among narrowKinds code ((inr refl, omega arith), ((inl refl, omega arith), ((inl refl, omega arith), ((inr refl, omega arith), ((inl refl, omega arith), ((inr refl, omega arith), tt)))))) l
 
 -- ---- the difference of two naturals
 sub-up : (a b c : ℕ) → a ≡ b + c → subℕ a b ≡ pos c

@@ -2,7 +2,6 @@
 // and nothing goes through memory. First the integers of at most 32 bits: a word is turned so that the kind's numbers stand in their order from 0
 // up, the least first. Then UInt, Float and SFloat. Two Ints have their own way (`number_arithmetic`).
 ghost use mathlib.Core.Path.{_≡_};
-ghost use mathlib.Core.Logic.{_⊎_};
 ghost use Prim.Native.Nat.{_+_, _≤_, _<_};
 ghost use lib.Dec.{ltb};
 ghost use lib.Ieee as Ieee;
@@ -10,10 +9,10 @@ ghost use lib.Ieee.{binary32, binary64};
 ghost use lib.IntN.{_+ℤ_, _-ℤ_, _*ℤ_, pos, subℕ};
 ghost use Rattle.numbers.specs.declared.IntKind.{IntKind};
 ghost use Rattle.numbers.specs.declared.IntKind.the-variants.{U64};
-ghost use Rattle.numbers.specs.Kinds.{intKindCode, wrapping};
+ghost use Rattle.numbers.specs.Kinds.{wrapping};
 ghost use Rattle.numbers.specs.Arithmetic.{checked};
 ghost use Rattle.numbers.specs.Compare.{integerOrder};
-ghost use Rattle.number_words.specs.Words.{IsOf, turn, signed, answerIn, wideAnswer};
+ghost use Rattle.number_words.specs.Words.{narrowKind, IsOf, turn, signed, answerIn, wideAnswer, FloatWord};
 use numbers::Order;
 
 // How many numbers a kind has, and how many of them are negative.
@@ -28,39 +27,38 @@ pub enum WordAnswer {
     Overflow,
 }
 
+// A kind with a sign has as many negative numbers as others.
+fn with_sign(negatives: u64) -> NarrowKind
+    requires { ⌜ negatives < 4294967296 ⌝ }
+    ensures { λ r. ⌜ r ≡ record { numbers = negatives + negatives; negatives = negatives } ⌝ }
+{
+    NarrowKind {
+        numbers: negatives + negatives,
+        negatives,
+    }
+}
+
+fn without_sign(numbers: u64) -> NarrowKind
+    ensures { λ r. ⌜ r ≡ record { numbers = numbers; negatives = 0 } ⌝ }
+{
+    NarrowKind {
+        numbers,
+        negatives: 0,
+    }
+}
+
 // The kind of a code, if it is an integer's and has at most 32 bits; no numbers otherwise.
 pub fn narrow_kind(code: u64) -> NarrowKind
-    ensures { λ r. ⌜ (r .numbers ≡ 0) ⊎ ((k : IntKind) × (intKindCode k ≡ code) × IsOf k r) ⌝ }
+    ensures { λ r. ⌜ r ≡ narrowKind code ⌝ }
 {
     match code {
-        3 => NarrowKind {
-            numbers: 0x1_0000_0000,
-            negatives: 0x8000_0000,
-        },
-        4 => NarrowKind {
-            numbers: 0x1_0000_0000,
-            negatives: 0,
-        },
-        10 => NarrowKind {
-            numbers: 0x100,
-            negatives: 0,
-        },
-        11 => NarrowKind {
-            numbers: 0x100,
-            negatives: 0x80,
-        },
-        12 => NarrowKind {
-            numbers: 0x1_0000,
-            negatives: 0,
-        },
-        13 => NarrowKind {
-            numbers: 0x1_0000,
-            negatives: 0x8000,
-        },
-        _ => NarrowKind {
-            numbers: 0,
-            negatives: 0,
-        },
+        3 => with_sign(0x8000_0000),
+        4 => without_sign(0x1_0000_0000),
+        10 => without_sign(0x100),
+        11 => with_sign(0x80),
+        12 => without_sign(0x1_0000),
+        13 => with_sign(0x8000),
+        _ => without_sign(0),
     }
 }
 
@@ -205,49 +203,49 @@ pub fn order_u64(p: u64, q: u64) -> Order
 
 // Two Floats or two SFloats by their words: one operation of IEEE 754 each.
 pub fn add_f64(p: u64, q: u64) -> u64
-    ensures { λ r. ⌜ Ieee.ofBits binary64 r ≡ Ieee.add binary64 (Ieee.ofBits binary64 p) (Ieee.ofBits binary64 q) ⌝ }
+    ensures { λ r. ⌜ FloatWord binary64 (Ieee.add binary64 (Ieee.ofBits binary64 p) (Ieee.ofBits binary64 q)) r ⌝ }
 {
     float_bits::word_of_f64(float_bits::f64_of_word(p) + float_bits::f64_of_word(q))
 }
 
 pub fn sub_f64(p: u64, q: u64) -> u64
-    ensures { λ r. ⌜ Ieee.ofBits binary64 r ≡ Ieee.sub binary64 (Ieee.ofBits binary64 p) (Ieee.ofBits binary64 q) ⌝ }
+    ensures { λ r. ⌜ FloatWord binary64 (Ieee.sub binary64 (Ieee.ofBits binary64 p) (Ieee.ofBits binary64 q)) r ⌝ }
 {
     float_bits::word_of_f64(float_bits::f64_of_word(p) - float_bits::f64_of_word(q))
 }
 
 pub fn mul_f64(p: u64, q: u64) -> u64
-    ensures { λ r. ⌜ Ieee.ofBits binary64 r ≡ Ieee.mul binary64 (Ieee.ofBits binary64 p) (Ieee.ofBits binary64 q) ⌝ }
+    ensures { λ r. ⌜ FloatWord binary64 (Ieee.mul binary64 (Ieee.ofBits binary64 p) (Ieee.ofBits binary64 q)) r ⌝ }
 {
     float_bits::word_of_f64(float_bits::f64_of_word(p) * float_bits::f64_of_word(q))
 }
 
 pub fn div_f64(p: u64, q: u64) -> u64
-    ensures { λ r. ⌜ Ieee.ofBits binary64 r ≡ Ieee.div binary64 (Ieee.ofBits binary64 p) (Ieee.ofBits binary64 q) ⌝ }
+    ensures { λ r. ⌜ FloatWord binary64 (Ieee.div binary64 (Ieee.ofBits binary64 p) (Ieee.ofBits binary64 q)) r ⌝ }
 {
     float_bits::word_of_f64(float_bits::f64_of_word(p) / float_bits::f64_of_word(q))
 }
 
 pub fn add_f32(p: u32, q: u32) -> u32
-    ensures { λ r. ⌜ Ieee.ofBits binary32 r ≡ Ieee.add binary32 (Ieee.ofBits binary32 p) (Ieee.ofBits binary32 q) ⌝ }
+    ensures { λ r. ⌜ FloatWord binary32 (Ieee.add binary32 (Ieee.ofBits binary32 p) (Ieee.ofBits binary32 q)) r ⌝ }
 {
     float_bits::word_of_f32(float_bits::f32_of_word(p) + float_bits::f32_of_word(q))
 }
 
 pub fn sub_f32(p: u32, q: u32) -> u32
-    ensures { λ r. ⌜ Ieee.ofBits binary32 r ≡ Ieee.sub binary32 (Ieee.ofBits binary32 p) (Ieee.ofBits binary32 q) ⌝ }
+    ensures { λ r. ⌜ FloatWord binary32 (Ieee.sub binary32 (Ieee.ofBits binary32 p) (Ieee.ofBits binary32 q)) r ⌝ }
 {
     float_bits::word_of_f32(float_bits::f32_of_word(p) - float_bits::f32_of_word(q))
 }
 
 pub fn mul_f32(p: u32, q: u32) -> u32
-    ensures { λ r. ⌜ Ieee.ofBits binary32 r ≡ Ieee.mul binary32 (Ieee.ofBits binary32 p) (Ieee.ofBits binary32 q) ⌝ }
+    ensures { λ r. ⌜ FloatWord binary32 (Ieee.mul binary32 (Ieee.ofBits binary32 p) (Ieee.ofBits binary32 q)) r ⌝ }
 {
     float_bits::word_of_f32(float_bits::f32_of_word(p) * float_bits::f32_of_word(q))
 }
 
 pub fn div_f32(p: u32, q: u32) -> u32
-    ensures { λ r. ⌜ Ieee.ofBits binary32 r ≡ Ieee.div binary32 (Ieee.ofBits binary32 p) (Ieee.ofBits binary32 q) ⌝ }
+    ensures { λ r. ⌜ FloatWord binary32 (Ieee.div binary32 (Ieee.ofBits binary32 p) (Ieee.ofBits binary32 q)) r ⌝ }
 {
     float_bits::word_of_f32(float_bits::f32_of_word(p) / float_bits::f32_of_word(q))
 }
