@@ -6,8 +6,8 @@ use model::{BUDGET, Checked, ROOM};
 
 /// As many rows, rows marked `rust` and passing images as there were when this was written: fewer would mean that
 /// some are not read.
-const ROWS: usize = 252;
-const RUST_ROWS: usize = 152;
+const ROWS: usize = 253;
+const RUST_ROWS: usize = 153;
 const PASSING: usize = 2;
 
 #[derive(Debug, Clone, PartialEq)]
