@@ -1,22 +1,21 @@
 -- A run of a loaded image stops with a number of document 01 and at a place that exists.
-use mathlib.Core.Path.{_≡_, refl, sym, _∙_, subst, subst⁻¹}
+use mathlib.Core.Path.{_≡_, refl, subst, subst⁻¹}
 use mathlib.Core.Bool.{Bool, true, false}
-use mathlib.Core.List.{List}
-use Prim.Native.Nat.{ℕ, _≤_, _<_}
+use Prim.Native.Nat.{ℕ}
 use borrow.Author.Tests.{ltb-true, leb-true}
-use lib.Dec.{leb, ltb}
+use lib.Dec.{leb}
 use lib.ListN.{length}
-use Rattle.definition.specs.Image.{Image, chunkAt}
+use Rattle.definition.specs.Image.{Image}
 use Rattle.definition.specs.Value.{Value}
 use Rattle.definition.specs.Trees.{trees}
 use Rattle.definition.specs.Coding.{coded}
 use Rattle.definition.specs.State.{Ending, value, stop}
-use Rattle.definition.specs.Run.{Run, Reply, reply}
+use Rattle.definition.specs.Run.{reply}
 use Rattle.definition.specs.KeptValues.{wellFormed}
 use Rattle.definition.specs.Endings.{Placed, instruction, end, PlacedReply, aResult, aStop, tooLong, EndingsPlaced, RepliesPlaced}
 use Rattle.definition.proofs.Judged.{first, second}
 use Rattle.definition.proofs.Keeps.{loads-kept}
-use Rattle.definition.proofs.KeptValues.{numbered, StopKept, EndKept, end-kept}
+use Rattle.definition.proofs.KeptValues.{StopKept, EndKept, end-kept}
 use Rattle.definition.proofs.KeptValues as kept
 use Rattle.definition.proofs.WellFormed.{closed}
 

@@ -1,9 +1,9 @@
 -- A test of heads that the constants of an image and all that its instructions make pass is passed by every value of every run of it.
-use mathlib.Core.Path.{_≡_, refl, sym, _∙_, ap, subst, subst⁻¹}
+use mathlib.Core.Path.{_≡_, refl, ap, subst, subst⁻¹}
 use mathlib.Core.List.{List, [], _∷_, _++_, reverse, reverseAux}
 use mathlib.Core.Option.{Option, none, some}
 use mathlib.Core.Bool.{Bool, true, false, not, _&&_}
-use Prim.Native.Nat.{ℕ, zero, suc, _+_, _-_, _≤_, _<_, min}
+use Prim.Native.Nat.{ℕ, zero, suc, _+_, _-_, _≤_, _<_}
 use native.Mathlib.Omega.{arith as linear}
 use borrow.Author.Tests.{ltb-true, leb-true}
 use lib.Dec.{leb, ltb, eqb}
@@ -21,15 +21,15 @@ use Rattle.numbers.specs.Casts.{castOf}
 use Rattle.definition.specs.Table.{OpCode, Const, Add, Sub, Mul, Div, Negate, Not, Eq, NotEq, Less, LessEq, Greater, GreaterEq, GetLocal, SetLocal, GetGlobal, SetGlobal, DefineLocal, Pop, Return, PushScope, PopScope, Jump, JumpIfFalse, Loop, Call, Ok, Err, Propagate, Error, BuildArr, BuildTuple, Index, ArrLen, ArrSet, BuildClosure, Cast, IsKind}
 use Rattle.definition.specs.Image.{Image, chunkAt}
 use Rattle.definition.specs.Constants.{constantHead}
-use Rattle.definition.specs.Decode.{Instr, decode}
-use Rattle.definition.specs.Value.{Head, null, num, bool, str, char, arr, tuple, function, ok, error, err, closure, Value, Values, node, values, list}
-use Rattle.definition.specs.Shape.{Shape, shape, scalar, Callee, boolOf, numberOf, calleeOf, Wrapper, anOk, anErr, noWrapper, wrapperOf, Sequence, anArr, aTuple, noSequence, sequenceOf}
+use Rattle.definition.specs.Decode.{Instr}
+use Rattle.definition.specs.Value.{Head, null, num, bool, str, char, arr, tuple, function, ok, error, err, closure, Value, Values, values, list}
+use Rattle.definition.specs.Shape.{Shape, shape, scalar, Callee, boolOf, numberOf, calleeOf, Wrapper, anOk, anErr, noWrapper, Sequence, anArr, aTuple, noSequence, sequenceOf}
 use Rattle.definition.specs.Trees.{trees, viewTree, makeTree}
 use Rattle.definition.specs.Operation.{Answer, got, new, bad, OperationFault, overflow, zeroDivisor, wrongKind, unordered, outside, badCast, faultNumber}
 use Rattle.definition.specs.Numbers.{arith, compare, negate, cast, invert, number, verdict, ofTwo, compareTwo, ofOne, inverted}
 use Rattle.definition.specs.Arrays.{index, arrLen, arrSet, indexIn, element, elementAt, indexed, lengthOf, replaced, replacedAt, changed}
-use Rattle.definition.specs.State.{Frame, moved, State, Ending, value, stop, Outcome, next, done, Act, goOn, fault, enter, leave}
-use Rattle.definition.specs.Step.{put, makes, taking, orFault, ifElse, answer, grown, define, popScope, branch, call, propagate, capture, perform, fits, bounded, keptStarts, keptLocals, left, finishCall, went, entered, carry, begin, budgeted, within, stepIn, step}
+use Rattle.definition.specs.State.{Frame, State, Ending, value, stop, Outcome, next, done, Act, goOn, fault, enter, leave}
+use Rattle.definition.specs.Step.{put, makes, taking, orFault, ifElse, answer, grown, define, popScope, branch, call, propagate, capture, perform, fits, bounded, keptLocals, left, finishCall, carry, begin, budgeted, within, stepIn, step}
 use Rattle.definition.specs.Run.{Run, initial, at, IsRun}
 use Rattle.definition.specs.KeptValues.{All, nil, cons, Throughout, Throughouts, whole, nothing, each, Holds, Closed, RunKeeps, ValuesKept}
 use Rattle.definition.proofs.Judged.{first, second}

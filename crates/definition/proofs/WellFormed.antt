@@ -1,9 +1,9 @@
 -- Every value of a run of a loaded image is well formed: its constants are, by what every load keeps, and no operation makes another.
-use mathlib.Core.Path.{_≡_, refl, sym, ap, subst, subst⁻¹}
-use mathlib.Core.Bool.{Bool, true, false, cond, not, _||_}
+use mathlib.Core.Path.{_≡_, refl, ap, subst, subst⁻¹}
+use mathlib.Core.Bool.{Bool, true, false, cond, _||_}
 use mathlib.Core.List.{List, [], _∷_}
 use mathlib.Core.Option.{Option, none, some}
-use Prim.Native.Nat.{ℕ, zero, suc, _+_, _-_, _*_, _%_, _^_, _≤_, _<_}
+use Prim.Native.Nat.{ℕ, zero, suc, _-_, _*_, _^_, _≤_, _<_}
 use native.Mathlib.Omega.{arith}
 use native.Mathlib.Nat.{mod-lt, pow-suc, not-suc-le-zero}
 use borrow.Author.Tests.{ltb-true, ltb-false, leb-true, eqb-true, lt-ltb, le-leb}
@@ -11,7 +11,7 @@ use lib.Dec.{T, leb, ltb, eqb, lit≤}
 use lib.IntN.{ℤ, pos, negsuc, negℤ, natAbs}
 use lib.Signed.{quotZ}
 use lib.Pow.{pow-pos}
-use lib.ListN.{length, getD, getElem?}
+use lib.ListN.{length, getD}
 use lib.Ieee as Ieee
 use lib.Ieee.{Format, binary32, binary64, fits, up, down}
 use lib.Ieee.Fits.{nan-fits, inf-fits, round-fits, neg-fits, add-fits, sub-fits, mul-fits, div-fits, ofInt-fits, fits-widens}
@@ -28,12 +28,12 @@ use Rattle.numbers.specs.declared.CastTarget.the-variants.{ToInteger, ToFloat, 
 use Rattle.numbers.specs.Kinds.{intKindCode, isSigned, bitsOf, inRange, asKind, lowBits, twosComplement, wrapping}
 use Rattle.numbers.specs.Scalars.{Scalar, integer, double, single, ScalarPair, integers, doubles, singles, mixed, scalarOf, sameKind}
 use Rattle.numbers.specs.Answers.{pick}
-use Rattle.numbers.specs.Arithmetic.{checked, checkedDiv, arithmetic, addOf, subOf, mulOf, divOf, negateScalar, negateOf}
+use Rattle.numbers.specs.Arithmetic.{checked, checkedDiv, arithmetic, negateScalar, negateOf}
 use Rattle.numbers.proofs.Ranges.{no-negative}
 use Rattle.numbers.specs.Casts.{truncated, asFloat, castInteger, castTo, castable, castOf}
 use Rattle.definition.specs.Image.{Constant, Chunk, noChunk, Image, chunkAt}
 use Rattle.definition.specs.Lines.{listed, widths, widthOf}
-use Rattle.definition.specs.Loaded.{noConstant, ConstantKept, ChunkKept, Kept}
+use Rattle.definition.specs.Loaded.{noConstant, ConstantKept, Kept}
 use Rattle.definition.specs.Value.{Head, null, arr}
 use Rattle.definition.specs.Value.{Value as Tree}
 use Rattle.definition.specs.Shape.{shape}
