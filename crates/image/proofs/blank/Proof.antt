@@ -14,7 +14,7 @@ use Rattle.clearing.proofs.clear_usize.Reads as clear-usize-reads
 
 -- src/lib.rt:138:14
 slice-relend-prefix-clear-u8 : tie.Need-slice-relend-prefix-clear-u8
-slice-relend-prefix-clear-u8 c = search needs
+slice-relend-prefix-clear-u8 c = omega (arith, c .before .before .before .before .before .pre .room-bytes)
 
 -- src/lib.rt:138:14
 slice-aggregate-clear-u8 : tie.Need-slice-aggregate-clear-u8
@@ -28,7 +28,7 @@ clear-u8-requires c κs = search needs
 
 -- src/lib.rt:139:17
 slice-relend-prefix-clear-usize : tie.Need-slice-relend-prefix-clear-usize
-slice-relend-prefix-clear-usize c = search needs
+slice-relend-prefix-clear-usize c = omega (arith, c .before .before .before .before .before .before .before .before .before .pre .room-ends)
 
 -- src/lib.rt:139:17
 slice-aggregate-clear-usize : tie.Need-slice-aggregate-clear-usize
@@ -42,7 +42,7 @@ clear-usize-requires c κs = search needs
 
 -- src/lib.rt:140:14
 slice-relend-prefix-clear-u8-2 : tie.Need-slice-relend-prefix-clear-u8-2
-slice-relend-prefix-clear-u8-2 c = search needs
+slice-relend-prefix-clear-u8-2 c = omega (arith, c .before .before .before .before .before .before .before .before .before .before .before .before .before .pre .room-kinds)
 
 -- src/lib.rt:140:14
 slice-aggregate-clear-u8-2 : tie.Need-slice-aggregate-clear-u8-2
@@ -56,7 +56,7 @@ clear-u8-requires-2 c κs = search needs
 
 -- src/lib.rt:141:15
 slice-relend-prefix-clear-u64 : tie.Need-slice-relend-prefix-clear-u64
-slice-relend-prefix-clear-u64 c = search needs
+slice-relend-prefix-clear-u64 c = omega (arith, c .before .before .before .before .before .before .before .before .before .before .before .before .before .before .before .before .before .pre .room-payloads)
 
 -- src/lib.rt:141:15
 slice-aggregate-clear-u64 : tie.Need-slice-aggregate-clear-u64
@@ -70,7 +70,7 @@ clear-u64-requires c κs = search needs
 
 -- src/lib.rt:142:17
 slice-relend-prefix-clear-usize-2 : tie.Need-slice-relend-prefix-clear-usize-2
-slice-relend-prefix-clear-usize-2 c = search needs
+slice-relend-prefix-clear-usize-2 c = omega (arith, c .before .before .before .before .before .before .before .before .before .before .before .before .before .before .before .before .before .before .before .before .before .pre .room-table)
 
 -- src/lib.rt:142:17
 slice-aggregate-clear-usize-2 : tie.Need-slice-aggregate-clear-usize-2
