@@ -1,5 +1,6 @@
 //! A copy of the repository in a temporary folder, in which a crate is edited and checked.
 
+use crate::edit::Edit;
 use crate::prover::Log;
 use crate::source::Files;
 use std::collections::BTreeSet;
@@ -108,9 +109,15 @@ impl Copy {
         found
     }
 
-    /// The files of a crate that an edit may change.
-    pub fn files(&self, name: &str) -> Files {
-        files(&self.top.join("crates").join(name), &["src", "specs"])
+    /// The files of a crate that these edits may change.
+    pub fn files(&self, name: &str, edits: &[Edit]) -> Files {
+        let folder = self.top.join("crates").join(name);
+        let mut all = files(&folder, &["src", "specs"]);
+        for proof in edits.iter().filter_map(|edit| edit.proof.as_ref()) {
+            let text = fs::read_to_string(folder.join(&proof.file)).expect("a proof");
+            all.insert(proof.file.clone(), text);
+        }
+        all
     }
 
     /// What `rt COMMAND NAME` says of the crate with these files.
@@ -140,8 +147,8 @@ impl Copy {
     }
 
     /// The crate as it was, for crates that stand on it; its incremental folder is not needed again.
-    pub fn restore(&self, name: &str) {
-        for (path, text) in self.files(name) {
+    pub fn restore(&self, name: &str, files: &Files) {
+        for (path, text) in files {
             fs::write(self.root.join("crates").join(name).join(path), text)
                 .expect("a file is written");
         }

@@ -14,11 +14,19 @@ pub struct Change {
     pub control: Option<String>,
 }
 
+/// A proof that fits the changed shape, and takes the place of the function's own: the control is proved by it.
+#[derive(Clone)]
+pub struct Proof {
+    pub file: String,
+    pub text: String,
+}
+
 pub struct Edit {
     pub name: String,
     /// The functions that it is a wrong program of; none where it is a wrong definition.
     pub of: Vec<String>,
     pub changes: Vec<Change>,
+    pub proof: Option<Proof>,
 }
 
 /// A method is named with its type before it, as `CodeCursor::fetch_byte`.
@@ -28,6 +36,7 @@ fn last_part(name: &str) -> String {
 
 impl Edit {
     pub fn parse(name: &str, text: &str) -> Result<Edit, String> {
+        let (text, proof) = Proof::behind(text);
         let (mut of, mut changes) = (Vec::new(), Vec::new());
         let (mut file, mut within, mut old) = (String::new(), None, None);
         for line in text.lines() {
@@ -66,8 +75,15 @@ impl Edit {
         if of.is_empty() && changes.iter().any(of_code) {
             return Err("it changes code, and has no line 'of:'".to_string());
         }
-        let name = name.to_string();
-        Ok(Edit { name, of, changes })
+        if proof.is_some() && changes.iter().all(|change| change.control.is_none()) {
+            return Err("it has a proof, and no control that is proved by it".to_string());
+        }
+        Ok(Edit {
+            name: name.to_string(),
+            of,
+            changes,
+            proof,
+        })
     }
 
     /// The right program of the same changed shape, where the edit has one: the places that have a control are
@@ -87,15 +103,31 @@ impl Edit {
             name: self.name.clone(),
             of: self.of.clone(),
             changes,
+            proof: self.proof.clone(),
         })
     }
 
     /// Makes the edit. The answer is the functions in which it lies; a place outside every function is none.
     pub fn make(&self, files: &mut Files) -> Result<Vec<Option<String>>, String> {
+        if let Some(proof) = &self.proof {
+            files.insert(proof.file.clone(), proof.text.clone());
+        }
         self.changes
             .iter()
             .map(|change| change.make(files))
             .collect()
+    }
+}
+
+impl Proof {
+    /// An edit's text up to the line `proof:`, and the proof that is all behind it.
+    fn behind(text: &str) -> (&str, Option<Proof>) {
+        let Some((edit, rest)) = text.split_once("\nproof: ") else {
+            return (text, None);
+        };
+        let (file, text) = rest.split_once('\n').unwrap_or((rest, ""));
+        let (file, text) = (file.to_string(), text.to_string());
+        (edit, Some(Proof { file, text }))
     }
 }
 
@@ -198,6 +230,20 @@ mod tests {
             assert!(Edit::parse("e", &format!("{EDIT}control: {text}\n")).is_err());
         }
         assert!(Edit::parse("e", "of: f\ncontrol: b\n").is_err());
+    }
+
+    #[test]
+    fn may_bring_a_proof_of_its_shape() {
+        let proof = "proof: proofs/f/Proof.antt\n-- Why.\nold: no line of the edit\n";
+        assert!(Edit::parse("e", &format!("{EDIT}{proof}")).is_err());
+        let text = format!("{EDIT}control:     a + 1 + 0\n{proof}");
+        let edit = Edit::parse("e", &text).unwrap();
+        for edit in [edit.control().unwrap(), edit] {
+            let mut files = files("fn f(a: u8) -> u8\n{\n    a + 1\n}\n");
+            assert_eq!(edit.make(&mut files).unwrap().len(), 1);
+            let there = &files["proofs/f/Proof.antt"];
+            assert_eq!(there, "-- Why.\nold: no line of the edit\n");
+        }
     }
 
     #[test]

@@ -78,10 +78,18 @@ pub fn control(log: &Log, placed: &Placed) -> Controlled {
     Controlled::Proved
 }
 
-/// An edit that is refused by this error counts where its control is proved or refused at another place.
-pub fn beside_control(error: String, control: Option<Controlled>) -> Result<String, String> {
+/// An edit that is refused by this error counts where its control is proved or refused at another place; where it brings a
+/// proof of its own, only where the control is proved.
+pub fn beside_control(
+    error: String,
+    control: Option<Controlled>,
+    own_proof: bool,
+) -> Result<String, String> {
     match control {
         None | Some(Controlled::Proved) => Ok(error),
+        Some(Controlled::Refused(other)) if own_proof => Err(format!(
+            "its control, a right program, is not proved by the proof that it brings: {other}"
+        )),
         Some(Controlled::Refused(other)) if site(&other) != site(&error) => Ok(error),
         Some(Controlled::Refused(other)) => Err(format!(
             "its control, a right program, is refused at the same place: {other}"
@@ -154,14 +162,17 @@ mod tests {
     fn an_edit_counts_only_beside_its_control() {
         let error = || "f/Proof.antt:9:1: error: a".to_string();
         let refused = |other: &str| Some(Controlled::Refused(other.to_string()));
-        assert!(beside_control(error(), None).is_ok());
-        assert!(beside_control(error(), Some(Controlled::Proved)).is_ok());
-        assert!(beside_control(error(), refused("f/Proof.antt:7:4: error: a")).is_ok());
-        assert!(beside_control(error(), refused("f/Proof.antt:9:1: error: b")).is_err());
+        let beside = |control, own_proof| beside_control(error(), control, own_proof);
+        assert!(beside(None, false).is_ok());
+        assert!(beside(Some(Controlled::Proved), false).is_ok());
+        assert!(beside(refused("f/Proof.antt:7:4: error: a"), false).is_ok());
+        assert!(beside(refused("f/Proof.antt:9:1: error: b"), false).is_err());
+        assert!(beside(Some(Controlled::Proved), true).is_ok());
+        assert!(beside(refused("f/Proof.antt:7:4: error: a"), true).is_err());
         let missing = Controlled::Missing("none".to_string());
-        assert!(beside_control(error(), Some(missing)).is_err());
+        assert!(beside(Some(missing), false).is_err());
         let other = log(ELSEWHERE, "not proved");
         let placed = edit().control(&files()).unwrap();
-        assert!(beside_control(error(), Some(control(&other, &placed))).is_ok());
+        assert!(beside(Some(control(&other, &placed)), false).is_ok());
     }
 }

@@ -117,7 +117,6 @@ impl Work {
             for (edit, answer) in trials::of_crate(&copy, &name, &only) {
                 self.say(&name, &edit, answer);
             }
-            copy.restore(&name);
         }
     }
 

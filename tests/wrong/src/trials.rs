@@ -7,7 +7,7 @@ use crate::judge::{Controlled, beside_control, control, wrong};
 use crate::prover::form;
 use crate::source::Files;
 use std::cell::OnceCell;
-use std::collections::BTreeMap;
+use std::collections::{BTreeMap, BTreeSet};
 
 /// The error by which an edit is refused, or why it does not pass.
 type Answer = Result<String, String>;
@@ -22,29 +22,33 @@ struct Trials<'a> {
     answers: BTreeMap<String, Answer>,
     /// What came of each control, by the name of its edit.
     controls: BTreeMap<String, Controlled>,
+    /// The edits that bring a proof.
+    own_proofs: BTreeSet<String>,
 }
 
 /// Tries the edits of a crate, or only those that are named; the answers by the edits' names.
 pub fn of_crate(copy: &Copy, name: &str, only: &[String]) -> Vec<(String, Answer)> {
-    let mut trials = Trials {
-        copy,
-        name,
-        files: copy.files(name),
-        right: OnceCell::new(),
-        answers: BTreeMap::new(),
-        controls: BTreeMap::new(),
-    };
-    let walked = copy.walked(name);
-    let mut placed = Vec::new();
+    let (mut edits, mut answers) = (Vec::new(), BTreeMap::new());
     for (edit, text) in copy.edits(name) {
         if !only.is_empty() && !only.contains(&edit) {
             continue;
         }
-        match Edit::parse(&edit, &text).and_then(|e| Placed::new(e, &trials.files)) {
-            Ok(p) => placed.push(p),
-            Err(why) => drop(trials.answers.insert(edit, Err(why))),
+        match Edit::parse(&edit, &text) {
+            Ok(e) => edits.push(e),
+            Err(why) => drop(answers.insert(edit, Err(why))),
         }
     }
+    let mut trials = Trials {
+        copy,
+        name,
+        files: copy.files(name, &edits),
+        right: OnceCell::new(),
+        answers,
+        controls: BTreeMap::new(),
+        own_proofs: BTreeSet::new(),
+    };
+    let placed = trials.placed(edits);
+    let walked = copy.walked(name);
     for edit in &placed {
         trials.see_form(edit, edit.walked(&walked));
     }
@@ -57,10 +61,27 @@ pub fn of_crate(copy: &Copy, name: &str, only: &[String]) -> Vec<(String, Answer
     for batch in batches(&trials.files, all) {
         trials.try_batch(batch);
     }
+    copy.restore(name, &trials.files);
     trials.verdicts()
 }
 
 impl Trials<'_> {
+    /// The edits that can be made.
+    fn placed(&mut self, edits: Vec<Edit>) -> Vec<Placed> {
+        let mut all = Vec::new();
+        for edit in edits {
+            let name = edit.name.clone();
+            if edit.proof.is_some() {
+                self.own_proofs.insert(name.clone());
+            }
+            match Placed::new(edit, &self.files) {
+                Ok(placed) => all.push(placed),
+                Err(why) => drop(self.answers.insert(name, Err(why))),
+            }
+        }
+        all
+    }
+
     /// An edit of a walk by hand needs a control. Where it changes nothing but numbers in the compiled code, that is the
     /// right program itself: it has the same form, and is proved.
     fn see_form(&mut self, placed: &Placed, walked: Option<&String>) {
@@ -105,7 +126,8 @@ impl Trials<'_> {
         let mut all = Vec::new();
         for (name, answer) in self.answers {
             let control = self.controls.remove(&name);
-            all.push((name, answer.and_then(|e| beside_control(e, control))));
+            let own = self.own_proofs.contains(&name);
+            all.push((name, answer.and_then(|e| beside_control(e, control, own))));
         }
         all
     }
