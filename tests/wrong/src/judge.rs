@@ -35,8 +35,9 @@ pub fn wrong(log: &Log, files: &Files, placed: &Placed) -> Result<String, String
     Ok(error.to_string())
 }
 
-/// The error of a function in which the edit lies, and which is `of` or is called by it. An edit of a definition, or of a
-/// constant, lies in none.
+/// The error of a function in which the edit lies, and which is `of` or is called by it. Where one of its errors is about the
+/// proof's form, none of them counts: with other parts a fact stands at another place. An edit of a definition, or of a constant, lies in
+/// none.
 fn error_below<'a>(
     log: &'a Log,
     files: &Files,
@@ -48,10 +49,11 @@ fn error_below<'a>(
     let mut why = format!("{of} calls nothing that is refused by itself: {first}");
     for function in &placed.functions {
         let own = match function {
-            None => Some(first),
-            Some(f) => log.own_error(f).filter(|_| reached.contains(f)),
+            None => vec![first],
+            Some(f) if reached.contains(f) => log.own_errors(f),
+            Some(_) => Vec::new(),
         };
-        match own {
+        match own.iter().find(|error| about_form(error)).or(own.first()) {
             Some(error) if about_form(error) => why = format!("refused for its form: {error}"),
             Some(error) => return Ok(error),
             None => {}

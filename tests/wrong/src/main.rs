@@ -135,7 +135,8 @@ impl Work {
 }
 
 fn cut(text: &str) -> String {
-    text.chars().take(240).collect()
+    let words: Vec<&str> = text.split_whitespace().collect();
+    words.join(" ").chars().take(240).collect()
 }
 
 #[cfg(test)]

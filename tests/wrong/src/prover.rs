@@ -30,30 +30,57 @@ impl Log {
         verdict.starts_with("not proved") || verdict.starts_with("no proof")
     }
 
-    /// The error of a function that is not proved by itself: a line that names its proof (with a `+` before the name of a
-    /// recursive function) and does not only say that another part was not admitted; or, where it has no proof of its own,
+    /// The errors of a function that is not proved by itself: messages that name its proof (with a `+` before the name of a
+    /// recursive function) and do not only say that another part was not admitted; or, where it has no proof of its own,
     /// the fact that was not found.
-    pub fn own_error(&self, name: &str) -> Option<&str> {
-        let verdict = self.verdict(name)?;
-        if verdict.starts_with("no proof") {
-            return verdict.contains("does not close").then_some(verdict);
+    pub fn own_errors(&self, name: &str) -> Vec<&str> {
+        let verdict = self.verdict(name).unwrap_or("proved");
+        if verdict.starts_with("no proof") && verdict.contains("does not close") {
+            return vec![verdict];
         }
         if !verdict.starts_with("not proved") {
-            return None;
+            return Vec::new();
         }
         let proof = format!("{name}/Proof.antt:");
         let of_it = |line: &str, at: usize| line[..at].ends_with('/') || line[..at].ends_with("/+");
-        self.0.lines().find_map(|line| {
+        let own = |said: &'_ str| -> Option<usize> {
+            let line = said.lines().next().unwrap_or("");
             let at = line.find(&proof).filter(|at| of_it(line, *at))?;
             let fact = line.contains(": error: ") && !line.contains("was not admitted");
-            fact.then_some(&line[at..])
-        })
+            fact.then_some(at)
+        };
+        let all = self.messages().into_iter();
+        all.filter_map(|said| own(said).map(|at| &said[at..]))
+            .collect()
+    }
+
+    /// The first of them.
+    pub fn own_error(&self, name: &str) -> Option<&str> {
+        self.own_errors(name).first().copied()
     }
 
     /// The first error of all.
     pub fn first_error(&self) -> &str {
-        let error = |line: &&str| line.contains(": error") || line.starts_with("note: ");
-        self.0.lines().find(error).unwrap_or("no error is named")
+        let is_error = |said: &&str| {
+            let line = said.lines().next().unwrap_or("");
+            line.contains(": error") || line.starts_with("note: ")
+        };
+        let found = self.messages().into_iter().find(is_error);
+        found.unwrap_or("no error is named")
+    }
+
+    /// The lines, each with those that go on from it: these begin with a space.
+    fn messages(&self) -> Vec<&str> {
+        let (mut all, mut from, mut at) = (Vec::new(), 0, 0);
+        for line in self.0.split_inclusive('\n') {
+            if !line.starts_with(' ') {
+                all.push(self.0[from..at].trim_end());
+                from = at;
+            }
+            at += line.len();
+        }
+        all.push(self.0[from..].trim_end());
+        all
     }
 }
 
@@ -88,9 +115,13 @@ fn without_numbers(text: &str) -> String {
     out
 }
 
-/// Whether an error is about the form of a proof, which names a part that the code has no longer.
+/// Whether an error is about the form of a proof: it names a part that the code has no longer, or gives the parts in another
+/// order. A long message is broken at any space.
 pub fn about_form(error: &str) -> bool {
-    error.contains("has no `") || error.contains("has no field `")
+    let words: Vec<&str> = error.split_whitespace().collect();
+    let said = words.join(" ");
+    let parts_differ = said.contains("-spec`: expected type `tie.Need-");
+    said.contains("has no `") || said.contains("has no field `") || parts_differ
 }
 
 #[cfg(test)]
@@ -121,6 +152,23 @@ mod tests {
         assert!(log().own_error("again").unwrap().contains("`4`"));
         assert_eq!(log().own_error("top"), None);
         assert_eq!(log().own_error("right"), None);
+    }
+
+    #[test]
+    fn an_error_may_go_on_in_further_lines() {
+        let log = Log([
+            "/x/proofs/m/low/Proof.antt:9:1: error: `returns`: record `a.long.name`",
+            "  has no",
+            "  field `if1`",
+            "fn x::m::low: not proved",
+            "logic=not-proved",
+        ]
+        .join("\n"));
+        assert!(about_form(log.own_error("low").unwrap()));
+        assert!(about_form(log.first_error()));
+        let order = "low/Proof.antt:9:1: error: `low-spec`: expected type `tie.Need-a`, but this has type `tie.Need-b`";
+        assert!(about_form(order) && !about_form(&order.replace("-spec", "")));
+        assert_eq!(site(log.own_error("low").unwrap()), "low/Proof.antt:9:1");
     }
 
     #[test]
