@@ -10,7 +10,31 @@ use native.Mathlib.Decide.{decLt}
 use lib.Dec.{T, eqb, eqb→eq}
 use lib.ListN.{length, getD, drop}
 use Rattle.definition.specs.Image.{Chunk, Image, chunkAt}
-use Rattle.definition.specs.Lines.{Load, image, refused, split, digit, bytesOf, lineOf, numberFrom, printable, textOf, chunkOf, listed, widths, widthOf, scalar, allowed, constantOf, codeLine, codeOf, endOf, recordOf, reads, loadImage}
+use Rattle.definition.specs.Lines.{
+  Load,
+  image,
+  refused,
+  split,
+  digit,
+  bytesOf,
+  lineOf,
+  numberFrom,
+  printable,
+  textOf,
+  chunkOf,
+  listed,
+  widths,
+  widthOf,
+  scalar,
+  allowed,
+  constantOf,
+  codeLine,
+  codeOf,
+  endOf,
+  recordOf,
+  reads,
+  loadImage,
+}
 use Rattle.definition.specs.Table.{opCodes}
 use Rattle.definition.specs.Constants.{constantAt, functionAt, strAt}
 use Rattle.definition.specs.Decode.{word, decode, targetAt, fault}
@@ -52,7 +76,8 @@ unfolding chunkTest
 chunk-passes c ms t =
     let u = both-right (marked ms 0) _ t in
     let v = both-right (eqb (heightAt ms 0) 0) _ u in
-    tested.passes c (marked ms) (heightAt ms) (depthAt ms) (both-left (marked ms 0) _ t) (eqb→eq _ 0 (both-left (eqb (heightAt ms 0) 0) _ u)) (eqb→eq _ 0 (both-left (eqb (depthAt ms 0) 0) _ v)) (both-right (eqb (depthAt ms 0) 0) _ v)
+    tested.passes c (marked ms) (heightAt ms) (depthAt ms) (both-left (marked ms 0) _ t) (eqb→eq _ 0 (both-left (eqb (heightAt ms 0) 0) _ u)) (eqb→eq
+    _ 0 (both-left (eqb (depthAt ms 0) 0) _ v)) (both-right (eqb (depthAt ms 0) 0) _ v)
 
 -- the first n chunks
 unfoldable chunksTest : Image → List (List Mark) → ℕ → Bool
@@ -95,7 +120,13 @@ each-passes (b ∷ bs) ms t = (
 unfoldable heights : List (List (List Mark))
 heights =
     (
-    (at 0 0 0 ∷ at 3 1 0 ∷ at 6 0 0 ∷ at 9 1 0 ∷ at 12 2 0 ∷ at 13 1 0 ∷ at 16 2 0 ∷ at 17 1 0 ∷ at 20 2 0 ∷ at 21 1 0 ∷ at 24 2 0 ∷ at 25 1 0 ∷ at 26 1 0 ∷ at 29 1 0 ∷ at 30 0 0 ∷ at 33 1 0 ∷ at 34 1 0 ∷ at 37 0 0 ∷ at 40 1 0 ∷ at 43 0 0 ∷ at 46 1 0 ∷ at 47 0 0 ∷ at 50 1 0 ∷ at 53 2 0 ∷ at 54 1 0 ∷ at 57 0 0 ∷ at 60 0 0 ∷ at 61 0 1 ∷ at 64 1 1 ∷ at 67 0 1 ∷ at 70 1 1 ∷ at 73 1 1 ∷ at 74 0 1 ∷ at 75 0 0 ∷ at 78 1 0 ∷ at 81 2 0 ∷ at 82 1 0 ∷ at 85 2 0 ∷ at 88 3 0 ∷ at 89 2 0 ∷ at 90 1 0 ∷ at 93 2 0 ∷ at 94 1 0 ∷ at 97 2 0 ∷ at 98 1 0 ∷ at 99 0 0 ∷ at 102 1 0 ∷ at 105 2 0 ∷ at 108 1 0 ∷ at 111 2 0 ∷ at 114 3 0 ∷ at 115 1 0 ∷ at 116 1 0 ∷ at 119 2 0 ∷ at 122 1 0 ∷ at 125 2 0 ∷ at 126 1 0 ∷ at 127 1 0 ∷ at 128 1 0 ∷ at 129 1 0 ∷ at 130 1 0 ∷ at 131 1 0 ∷ at 134 1 0 ∷ at 143 1 0 ∷ at 144 0 0 ∷ at 147 1 0 ∷ at 150 2 0 ∷ at 153 1 0 ∷ at 154 0 0 ∷ at 159 1 0 ∷ at 162 2 0 ∷ at 165 1 0 ∷ [])
+    (at 0 0 0 ∷ at 3 1 0 ∷ at 6 0 0 ∷ at 9 1 0 ∷ at 12 2 0 ∷ at 13 1 0 ∷ at 16 2 0 ∷ at 17 1 0 ∷ at 20 2 0 ∷ at 21 1 0 ∷ at 24 2 0 ∷ at 25 1 0 ∷ at 26
+    1 0 ∷ at 29 1 0 ∷ at 30 0 0 ∷ at 33 1 0 ∷ at 34 1 0 ∷ at 37 0 0 ∷ at 40 1 0 ∷ at 43 0 0 ∷ at 46 1 0 ∷ at 47 0 0 ∷ at 50 1 0 ∷ at 53 2 0 ∷ at
+    54 1 0 ∷ at 57 0 0 ∷ at 60 0 0 ∷ at 61 0 1 ∷ at 64 1 1 ∷ at 67 0 1 ∷ at 70 1 1 ∷ at 73 1 1 ∷ at 74 0 1 ∷ at 75 0 0 ∷ at 78 1 0 ∷ at 81 2 0 ∷
+    at 82 1 0 ∷ at 85 2 0 ∷ at 88 3 0 ∷ at 89 2 0 ∷ at 90 1 0 ∷ at 93 2 0 ∷ at 94 1 0 ∷ at 97 2 0 ∷ at 98 1 0 ∷ at 99 0 0 ∷ at 102 1 0 ∷ at 105 2
+    0 ∷ at 108 1 0 ∷ at 111 2 0 ∷ at 114 3 0 ∷ at 115 1 0 ∷ at 116 1 0 ∷ at 119 2 0 ∷ at 122 1 0 ∷ at 125 2 0 ∷ at 126 1 0 ∷ at 127 1 0 ∷ at 128 1
+    0 ∷ at 129 1 0 ∷ at 130 1 0 ∷ at 131 1 0 ∷ at 134 1 0 ∷ at 143 1 0 ∷ at 144 0 0 ∷ at 147 1 0 ∷ at 150 2 0 ∷ at 153 1 0 ∷ at 154 0 0 ∷ at 159 1
+    0 ∷ at 162 2 0 ∷ at 165 1 0 ∷ [])
     ∷ (at 0 0 0 ∷ at 3 1 0 ∷ [])
     ∷ [])
     ∷ (
@@ -106,11 +137,14 @@ heights =
     ∷ (at 0 0 0 ∷ at 3 1 0 ∷ at 6 0 0 ∷ at 10 0 0 ∷ at 11 0 1 ∷ at 14 1 1 ∷ at 65541 0 0 ∷ [])
     ∷ (at 0 0 0 ∷ at 3 1 0 ∷ at 6 0 0 ∷ at 7 0 0 ∷ at 5663 0 0 ∷ at 5664 0 0 ∷ [])
     ∷ (at 0 0 0 ∷ at 3 1 0 ∷ at 6 1 0 ∷ at 9 0 0 ∷ at 12 1 0 ∷ at 15 1 0 ∷ at 18 1 0 ∷ at 19 0 0 ∷ at 24 1 0 ∷ at 25 1 0 ∷ at 34 1 0 ∷ at 35 0 0 ∷ [])
-    ∷ (at 0 0 0 ∷ at 3 1 0 ∷ at 6 1 0 ∷ at 9 1 0 ∷ at 12 1 0 ∷ at 15 1 0 ∷ at 18 1 0 ∷ at 21 1 0 ∷ at 24 1 0 ∷ at 27 1 0 ∷ at 30 1 0 ∷ at 33 1 0 ∷ at 36 1 0 ∷ at 37 0 0 ∷ at 40 1 0 ∷ at 43 2 0 ∷ at 46 1 0 ∷ at 47 0 0 ∷ [])
+    ∷ (at 0 0 0 ∷ at 3 1 0 ∷ at 6 1 0 ∷ at 9 1 0 ∷ at 12 1 0 ∷ at 15 1 0 ∷ at 18 1 0 ∷ at 21 1 0 ∷ at 24 1 0 ∷ at 27 1 0 ∷ at 30 1 0 ∷ at 33 1 0 ∷ at
+    36 1 0 ∷ at 37 0 0 ∷ at 40 1 0 ∷ at 43 2 0 ∷ at 46 1 0 ∷ at 47 0 0 ∷ [])
     ∷ (at 0 0 0 ∷ [])
     ∷ [])
     ∷ []
 
 pub passing-passes : EachPasses passingImages
-unfolding chunkTest chunksTest loadedTest eachTest heights passingImages chunkAt every local pick stands arrives both afterTest exactTest fault decode word opCodes constantAt functionAt strAt targetAt split digit bytesOf lineOf numberFrom printable textOf chunkOf listed widths widthOf scalar allowed constantOf codeLine codeOf endOf recordOf reads loadImage
+unfolding chunkTest chunksTest loadedTest eachTest heights passingImages chunkAt every local pick stands arrives both afterTest exactTest fault decode
+    word opCodes constantAt functionAt strAt targetAt split digit bytesOf lineOf numberFrom printable textOf chunkOf listed widths widthOf scalar
+    allowed constantOf codeLine codeOf endOf recordOf reads loadImage
 passing-passes = each-passes passingImages heights tt

@@ -20,7 +20,8 @@ use Rattle.definition.proofs.KeptValues as kept
 use Rattle.definition.proofs.WellFormed.{closed}
 
 placed : (im : Image) {n c p : ℕ} → StopKept (wellFormed im) im n c p → Placed im n c p
-placed im (kept.instruction {n = n} {c = c} e t l) = instruction (leb-true 30 n (first (leb 30 n) (leb n 46) e)) (leb-true n 46 (second (leb 30 n) (leb n 46) e)) (ltb-true c (length (im .chunks)) t) l
+placed im (kept.instruction {n = n} {c = c} e t l) = instruction (leb-true 30 n (first (leb 30 n) (leb n 46) e)) (leb-true n 46 (second (leb 30 n)
+    (leb n 46) e)) (ltb-true c (length (im .chunks)) t) l
 placed im (kept.end {c = c} t) = end (ltb-true c (length (im .chunks)) t)
 
 pub endings-placed : EndingsPlaced

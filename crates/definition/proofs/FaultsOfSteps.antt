@@ -9,14 +9,76 @@ use native.Mathlib.Omega.{arith}
 use lib.Dec.{leb}
 use borrow.Author.Tests.{lt-ltb, leb-false}
 use lib.ListN.{length, take, drop}
-use Rattle.definition.specs.Table.{OpCode, Const, Add, Sub, Mul, Div, Negate, Not, Eq, NotEq, Less, LessEq, Greater, GreaterEq, GetLocal, SetLocal, GetGlobal, SetGlobal, DefineLocal, Pop, Return, PushScope, PopScope, Jump, JumpIfFalse, Loop, Call, Ok, Err, Propagate, Error, BuildArr, BuildTuple, Index, ArrLen, ArrSet, BuildClosure, Cast, IsKind, row, need}
+use Rattle.definition.specs.Table.{
+  OpCode,
+  Const,
+  Add,
+  Sub,
+  Mul,
+  Div,
+  Negate,
+  Not,
+  Eq,
+  NotEq,
+  Less,
+  LessEq,
+  Greater,
+  GreaterEq,
+  GetLocal,
+  SetLocal,
+  GetGlobal,
+  SetGlobal,
+  DefineLocal,
+  Pop,
+  Return,
+  PushScope,
+  PopScope,
+  Jump,
+  JumpIfFalse,
+  Loop,
+  Call,
+  Ok,
+  Err,
+  Propagate,
+  Error,
+  BuildArr,
+  BuildTuple,
+  Index,
+  ArrLen,
+  ArrSet,
+  BuildClosure,
+  Cast,
+  IsKind,
+  row,
+  need,
+}
 use Rattle.definition.specs.Image.{Image, chunkAt}
 use Rattle.definition.specs.Constants.{constantAt, functionAt}
 use Rattle.definition.specs.Decode.{Instr, decode, targetAt, isSome, unless, faultOf, faultIn, fault as faultAt}
 use Rattle.definition.specs.Shape.{Alg, Callee, Wrapper, anOk, anErr, noWrapper}
 use Rattle.definition.specs.Operation.{Answer, got, new, bad, OperationFault, overflow, zeroDivisor, wrongKind, unordered, outside, badCast, faultNumber}
 use Rattle.definition.specs.State.{Frame, State, value, stop, Outcome, next, done, Act, goOn, fault, enter, leave}
-use Rattle.definition.specs.Step.{taking, orFault, ifElse, answer, define, popScope, branch, call, propagate, capture, perform, bounded, finishCall, carry, begin, budgeted, within, stepIn, step}
+use Rattle.definition.specs.Step.{
+  taking,
+  orFault,
+  ifElse,
+  answer,
+  define,
+  popScope,
+  branch,
+  call,
+  propagate,
+  capture,
+  perform,
+  bounded,
+  finishCall,
+  carry,
+  begin,
+  budgeted,
+  within,
+  stepIn,
+  step,
+}
 use Rattle.definition.specs.Claims.{AtOffset, Enough, StopsAs, FaultsOfSteps}
 
 -- the check's fault m and the number n of a stop, where operands are enough (E), or not
@@ -54,7 +116,8 @@ module _ {Val Cells : Type 0} (A : Alg Val Cells) (s : State Val Cells) where
     leaf o outside = omega arith
     leaf o badCast = omega arith
 
-    takes : (o : OpCode) (n m : ℕ) (c : List Val → List Val → Act Val Cells) → n ≡ need o a → Agrees o m (c (take n (s .operands)) (drop n (s .operands))) → Agrees o m (taking n s c)
+    takes : (o : OpCode) (n m : ℕ) (c : List Val → List Val → Act Val Cells) → n ≡ need o a → Agrees o m (c (take n (s .operands)) (drop n (s .operands)))
+        → Agrees o m (taking n s c)
     unfolding taking ifElse
     takes o n m c e h = go (leb n k) refl
       where
@@ -136,7 +199,8 @@ module _ {Val Cells : Type 0} (A : Alg Val Cells) (s : State Val Cells) where
     abbrev pub seen : OpCode → ℕ
     seen o = faultOf (row o .static) (chunkAt im (f .chunk) .constants) (f .position) i
 
-    takes′ : (o : OpCode) (n m : ℕ) (c : List Val → List Val → Act Val Cells) → n ≡ need o (i .a) → Agrees (i .a) o m (c (take n (s .operands)) (drop n (s .operands))) → Agrees (i .a) o m (taking n s c)
+    takes′ : (o : OpCode) (n m : ℕ) (c : List Val → List Val → Act Val Cells) → n ≡ need o (i .a) → Agrees (i .a) o m (c (take n (s .operands)) (drop
+        n (s .operands))) → Agrees (i .a) o m (taking n s c)
     takes′ = takes (i .a)
 
     leaf′ : (o : OpCode) (r : List Val) (q : ℕ) (x : Answer Val) → Agrees (i .a) o 0 (answer A s r q x)
@@ -220,7 +284,19 @@ module _ {Val Cells : Type 0} (A : Alg Val Cells) (s : State Val Cells) where
     begin-out : (im : Image) (fs : List Frame) (x : Option Instr)
         → Out ((i : Instr) → x ≡ some i → need (i .op) (i .a) ≤ k) (faultIn (chunkAt im (f .chunk) .constants) (f .position) x) (begin A im s f fs x)
     unfolding begin
-    begin-out im fs none = (((λ e. refl), (λ e. absurd (omega arith)), (λ e. absurd (omega arith)), (λ g. ((λ e. refl), (λ e. absurd (omega arith)), (λ e. absurd (omega arith))))), inr refl)
+    begin-out im fs none = (
+      (
+        (λ e. refl),
+        (λ e. absurd (omega arith)),
+        (λ e. absurd (omega arith)),
+        (λ g. (
+          (λ e. refl),
+          (λ e. absurd (omega arith)),
+          (λ e. absurd (omega arith)),
+        )),
+      ),
+      inr refl,
+    )
     begin-out im fs (some i) =
         let x = perform A im s f i (i .op) in
         enough (need (i .op) (i .a) ≤ k) ((j : Instr) → some i ≡ some j → need (j .op) (j .a) ≤ k) (λ g. g i refl) (seen im f i (i .op)) (carry A s f fs x)
@@ -236,7 +312,8 @@ module _ {Val Cells : Type 0} (A : Alg Val Cells) (s : State Val Cells) where
       only = λ c d q e. h _ _ (subst (Out _ _) e w .0);
     }
       where
-        go : (x : Outcome Val Cells) → Out (Enough A im s f) (faultAt (chunkAt im (f .chunk)) (f .position)) x → faultAt (chunkAt im (f .chunk)) (f .position) ≡ m → Enough A im s f → x ≡ here n
+        go : (x : Outcome Val Cells) → Out (Enough A im s f) (faultAt (chunkAt im (f .chunk)) (f .position)) x → faultAt (chunkAt im (f .chunk)) (f .position)
+            ≡ m → Enough A im s f → x ≡ here n
         go (next t) z e q = absurd (omega arith)
         go (done (value c v cs)) z e q = absurd (omega arith)
         go (done (stop b c d r)) (z, inl y) e q = absurd (omega arith)

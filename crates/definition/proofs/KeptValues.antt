@@ -18,7 +18,47 @@ use Rattle.numbers.specs.declared.ComparisonAnswer.the-variants as comparison
 use Rattle.numbers.specs.Arithmetic.{addOf, subOf, mulOf, divOf, negateOf}
 use Rattle.numbers.specs.Compare.{lessOf, lessEqOf, greaterOf, greaterEqOf}
 use Rattle.numbers.specs.Casts.{castOf}
-use Rattle.definition.specs.Table.{OpCode, Const, Add, Sub, Mul, Div, Negate, Not, Eq, NotEq, Less, LessEq, Greater, GreaterEq, GetLocal, SetLocal, GetGlobal, SetGlobal, DefineLocal, Pop, Return, PushScope, PopScope, Jump, JumpIfFalse, Loop, Call, Ok, Err, Propagate, Error, BuildArr, BuildTuple, Index, ArrLen, ArrSet, BuildClosure, Cast, IsKind}
+use Rattle.definition.specs.Table.{
+  OpCode,
+  Const,
+  Add,
+  Sub,
+  Mul,
+  Div,
+  Negate,
+  Not,
+  Eq,
+  NotEq,
+  Less,
+  LessEq,
+  Greater,
+  GreaterEq,
+  GetLocal,
+  SetLocal,
+  GetGlobal,
+  SetGlobal,
+  DefineLocal,
+  Pop,
+  Return,
+  PushScope,
+  PopScope,
+  Jump,
+  JumpIfFalse,
+  Loop,
+  Call,
+  Ok,
+  Err,
+  Propagate,
+  Error,
+  BuildArr,
+  BuildTuple,
+  Index,
+  ArrLen,
+  ArrSet,
+  BuildClosure,
+  Cast,
+  IsKind,
+}
 use Rattle.definition.specs.Image.{Image, chunkAt}
 use Rattle.definition.specs.Constants.{constantHead}
 use Rattle.definition.specs.Decode.{Instr}
@@ -29,7 +69,33 @@ use Rattle.definition.specs.Operation.{Answer, got, new, bad, OperationF
 use Rattle.definition.specs.Numbers.{arith, compare, negate, cast, invert, number, verdict, ofTwo, compareTwo, ofOne, inverted}
 use Rattle.definition.specs.Arrays.{index, arrLen, arrSet, indexIn, element, elementAt, indexed, lengthOf, replaced, replacedAt, changed}
 use Rattle.definition.specs.State.{Frame, State, Ending, value, stop, Outcome, next, done, Act, goOn, fault, enter, leave}
-use Rattle.definition.specs.Step.{put, makes, taking, orFault, ifElse, answer, grown, define, popScope, branch, call, propagate, capture, perform, fits, bounded, keptLocals, left, finishCall, carry, begin, budgeted, within, stepIn, step}
+use Rattle.definition.specs.Step.{
+  put,
+  makes,
+  taking,
+  orFault,
+  ifElse,
+  answer,
+  grown,
+  define,
+  popScope,
+  branch,
+  call,
+  propagate,
+  capture,
+  perform,
+  fits,
+  bounded,
+  keptLocals,
+  left,
+  finishCall,
+  carry,
+  begin,
+  budgeted,
+  within,
+  stepIn,
+  step,
+}
 use Rattle.definition.specs.Run.{Run, initial, at, IsRun}
 use Rattle.definition.specs.KeptValues.{All, nil, cons, Throughout, Throughouts, whole, nothing, each, Holds, Closed, RunKeeps, ValuesKept}
 use Rattle.definition.proofs.Judged.{first, second}
@@ -282,7 +348,8 @@ module _ (test : Head → Bool) where
   option z n none f p = halt n
   option z n (some c) f p = p c refl
 
-  found : (z : ℕ) → numbered z ≡ true → {x : Option Value} (f : Value → Act Value ℕ) → Found (Throughout test) x → ((v : Value) → Throughout test v → ActKept (f v)) → ActKept (orFault z x f)
+  found : (z : ℕ) → numbered z ≡ true → {x : Option Value} (f : Value → Act Value ℕ) → Found (Throughout test) x → ((v : Value) → Throughout test v →
+      ActKept (f v)) → ActKept (orFault z x f)
   unfolding orFault
   found z n f nowhere p = halt n
   found z n f (there {x = v} r) p = p v r
@@ -460,12 +527,14 @@ module _ (test : Head → Bool) where
       }
 
   module _ (im : Image) (k : Closed im test) where
-    bounded-kept : (b : Bool) (t : State Value ℕ) (vs : List Value) (f : Frame) (p : ℕ) → fits trees t vs ≡ b → Filled t → StopKept im 45 (f .chunk) p → OutKept im (bounded trees b t f p)
+    bounded-kept : (b : Bool) (t : State Value ℕ) (vs : List Value) (f : Frame) (p : ℕ) → fits trees t vs ≡ b → Filled t → StopKept im 45 (f .chunk) p
+        → OutKept im (bounded trees b t f p)
     unfolding bounded
     bounded-kept true t vs f p e w z = fitting t vs e w
     bounded-kept false t vs f p e w z = z
 
-    finish-kept : (b : Bool) (t : State Value ℕ) (f : Frame) (fs : List Frame) (v : Value) (p : ℕ) → fits trees t [] ≡ b → Filled t → Throughout test v → StopKept im 45 (f .chunk) p
+    finish-kept : (b : Bool) (t : State Value ℕ) (f : Frame) (fs : List Frame) (v : Value) (p : ℕ) → fits trees t [] ≡ b → Filled t → Throughout test
+        v → StopKept im 45 (f .chunk) p
         → OutKept im (finishCall trees b t f fs v p)
     unfolding finishCall
     finish-kept false t f fs v p e w r z = z
@@ -477,9 +546,16 @@ module _ (test : Head → Bool) where
     cut-kept true st a rl = all-take (getD st (length st - suc a) 0) rl
     cut-kept false st a rl = rl
 
-    module _ (s : State Value ℕ) (w : Holds test s) (f : Frame) (fs : List Frame) (t : test (function (f .chunk)) ≡ true) (ts : All (λ (g : Frame). test (function (g .chunk)) ≡ true) fs) where
+    module _ (s : State Value ℕ) (w : Holds test s) (f : Frame) (fs : List Frame) (t : test (function (f .chunk)) ≡ true) (ts : All (λ (g : Frame).
+        test (function (g .chunk)) ≡ true) fs) where
       left-kept : {v : Value} {r : List Value} (n : ℕ) → Throughout test v → Every r → Filled (left trees s f fs v r n)
-      left-kept n rv rr = record { operands = cons rv rr; locals = cut-kept (ltb (f .scopeBase) (length (s .scopeStarts))) (s .scopeStarts) (f .scopeBase) (w .locals); globals = w .globals; frames = ts }
+      left-kept n rv rr = record {
+        operands = cons rv rr;
+        locals = cut-kept (ltb (f .scopeBase) (length (s .scopeStarts))) (s .scopeStarts) (f .scopeBase)
+            (w .locals);
+        globals = w .globals;
+        frames = ts;
+      }
 
       module _ (l : f .position < length (chunkAt im (f .chunk) .code)) where
         carry-kept : {a : Act Value ℕ} → ActKept a → OutKept im (carry trees s f fs a)
@@ -488,7 +564,13 @@ module _ (test : Head → Bool) where
             bounded-kept _ _ vs f (f .position) refl (record { operands = all-append rv rr; locals = rl; globals = rg; frames = cons t ts }) (instruction refl t l)
         carry-kept (halt n) = instruction n t l
         carry-kept (into c ro rr) =
-            bounded-kept _ _ [] f (f .position) refl (record { operands = rr; locals = all-append (w .locals) ro; globals = w .globals; frames = cons c (cons t ts) }) (instruction refl t l)
+            bounded-kept _ _ [] f (f .position) refl (record {
+              operands = rr;
+              locals = all-append (w .locals) ro;
+              globals = w .globals;
+              frames = cons
+                  c (cons t ts);
+            }) (instruction refl t l)
         carry-kept (out {v = v} rv rr) = finish-kept _ _ f fs v (f .position) refl (left-kept (suc (s .count)) rv rr) rv (instruction refl t l)
 
         begin-kept : (x : Option Instr) → OutKept im (begin trees im s f fs x)
@@ -507,7 +589,8 @@ module _ (test : Head → Bool) where
       within-kept budget false e =
           finish-kept _ _ f fs _ (length (chunkAt im (f .chunk) .code)) refl (left-kept (s .count) (null-kept im k s w) (w .operands)) (null-kept im k s w) (end t)
 
-    in-kept : (budget : ℕ) (s : State Value ℕ) (w : Holds test s) {fs : List Frame} → All (λ (g : Frame). test (function (g .chunk)) ≡ true) fs → OutKept im (stepIn trees im budget s fs)
+    in-kept : (budget : ℕ) (s : State Value ℕ) (w : Holds test s) {fs : List Frame} → All (λ (g : Frame). test (function (g .chunk)) ≡ true) fs →
+        OutKept im (stepIn trees im budget s fs)
     unfolding stepIn
     in-kept budget s w nil = null-kept im k s w
     in-kept budget s w (cons {x = f} {xs = fs} t ts) = within-kept s w f fs t ts budget _ refl
@@ -518,7 +601,14 @@ module _ (test : Head → Bool) where
 
     -- ---- runs
     begins : Holds test (initial trees)
-    begins = record { operands = nil; locals = nil; globals = nil; frames = cons (k .top) nil; few-operands = let z : 0 ≤ 256 = omega linear in z; few-locals = let z : 0 ≤ 1024 = omega linear in z }
+    begins = record {
+      operands = nil;
+      locals = nil;
+      globals = nil;
+      frames = cons (k .top) nil;
+      few-operands = let z : 0 ≤ 256 = omega linear in z;
+      few-locals = let z : 0 ≤ 1024 = omega linear in z;
+    }
 
     module _ (budget : ℕ) (r : Run Value ℕ) (R : IsRun trees im budget (initial trees) r) where
       state-kept : (j : ℕ) → j ≤ R .last → Holds test (at trees (r .states) j)

@@ -31,7 +31,8 @@ cut-locals z l ws =
     ap (λ (n : ℕ). getD (z ++ l ∷ ws) n 0) e ∙ getD-append-seam z l ws 0
 
 -- a frame that goes, and has the scope start l from the beginning, over the starts ws
-module _ {Val Cells : Type 0} (A : Alg Val Cells) (s : State Val Cells) (f : Frame) (z : List ℕ) (l : ℕ) (ws : List ℕ) (e : s .scopeStarts ≡ z ++ l ∷ ws) (k : f .scopeBase ≡ length ws) where
+module _ {Val Cells : Type 0} (A : Alg Val Cells) (s : State Val Cells) (f : Frame) (z : List ℕ) (l : ℕ) (ws : List ℕ) (e : s .scopeStarts ≡ z ++ l ∷
+    ws) (k : f .scopeBase ≡ length ws) where
   has-base : ltb (f .scopeBase) (length (s .scopeStarts)) ≡ true
   has-base = lt-ltb (f .scopeBase) (length (s .scopeStarts)) (omega (arith, simp length-append at (ap length e)))
 
@@ -90,7 +91,8 @@ module _ {Val Cells : Type 0} (A : Alg Val Cells) where
   Result n s (next t) = Laid t × LowerKept A n s t
   Result n s (done e) = Unit {0}
 
-  module _ (s : State Val Cells) (f : Frame) (fs : List Frame) (st₀ : List ℕ) (L : Layer f (length (s .locals)) (s .scopeStarts) st₀) (U : Under fs f st₀) (F : s .frames ≡ f ∷ fs) where
+  module _ (s : State Val Cells) (f : Frame) (fs : List Frame) (st₀ : List ℕ) (L : Layer f (length (s .locals)) (s .scopeStarts) st₀) (U : Under fs f
+      st₀) (F : s .frames ≡ f ∷ fs) where
     abbrev lb : ℕ
     lb = f .localBase
 
@@ -172,7 +174,12 @@ module _ {Val Cells : Type 0} (A : Alg Val Cells) where
               under-moved fs f q st₀ U,
             );
           },
-          record { before = L .inside; after = simp length-append (omega (arith, L .inside)); slots = take-append-le lb (s .locals) own (L .inside); above = λ x g gs y. subst (λ (z : Frame). z .localBase ≡ length (s .locals)) (head-eq-of-cons-eq y) refl },
+          record {
+            before = L .inside;
+            after = simp length-append (omega (arith, L .inside));
+            slots = take-append-le lb (s .locals) own (L .inside);
+            above = λ x g gs y. subst (λ (z : Frame). z .localBase ≡ length (s .locals)) (head-eq-of-cons-eq y) refl;
+          },
         )
     carries i (leave v r) h = leaves _ fs v r _ _ refl U
 

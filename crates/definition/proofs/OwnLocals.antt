@@ -10,7 +10,48 @@ use lib.Dec.{leb}
 use borrow.Author.Tests.{leb-true, leb-false}
 use lib.ListN.{length, take, drop, set, length-append}
 use lib.Seq.{take-set-le, take-append-le, take-take}
-use Rattle.definition.specs.Table.{OpCode, Const, Add, Sub, Mul, Div, Negate, Not, Eq, NotEq, Less, LessEq, Greater, GreaterEq, GetLocal, SetLocal, GetGlobal, SetGlobal, DefineLocal, Pop, Return, PushScope, PopScope, Jump, JumpIfFalse, Loop, Call, Ok, Err, Propagate, Error, BuildArr, BuildTuple, Index, ArrLen, ArrSet, BuildClosure, Cast, IsKind, depthAfter}
+use Rattle.definition.specs.Table.{
+  OpCode,
+  Const,
+  Add,
+  Sub,
+  Mul,
+  Div,
+  Negate,
+  Not,
+  Eq,
+  NotEq,
+  Less,
+  LessEq,
+  Greater,
+  GreaterEq,
+  GetLocal,
+  SetLocal,
+  GetGlobal,
+  SetGlobal,
+  DefineLocal,
+  Pop,
+  Return,
+  PushScope,
+  PopScope,
+  Jump,
+  JumpIfFalse,
+  Loop,
+  Call,
+  Ok,
+  Err,
+  Propagate,
+  Error,
+  BuildArr,
+  BuildTuple,
+  Index,
+  ArrLen,
+  ArrSet,
+  BuildClosure,
+  Cast,
+  IsKind,
+  depthAfter,
+}
 use Rattle.definition.specs.Image.{Image}
 use Rattle.definition.specs.Decode.{Instr}
 use Rattle.definition.specs.Shape.{Alg, Callee, Wrapper, anOk, anErr, noWrapper}
@@ -93,7 +134,8 @@ module _ {Val Cells : Type 0} (A : Alg Val Cells) (s : State Val Cells) (f : Fra
   answers o r q (new x) k = same o k
   answers o r q (bad e) k = leaf o e
 
-  sets : (i : ℕ) (v : Val) (r : List Val) (b : Bool) (q : ℕ) → O SetLocal (ifElse b (goOn (v ∷ []) r q (set (s .locals) (f .localBase + i) v) (s .scopeStarts) (s .globals) (s .cells)) (fault 34))
+  sets : (i : ℕ) (v : Val) (r : List Val) (b : Bool) (q : ℕ) → O SetLocal (ifElse b (goOn (v ∷ []) r q (set (s .locals) (f .localBase + i) v) (s .scopeStarts)
+      (s .globals) (s .cells)) (fault 34))
   sets i v r b q = either SetLocal b _ _ (above SetLocal _ refl (take-set-le lb (s .locals) (f .localBase + i) v (omega (arith, w .base)))) (less SetLocal 34 (omega arith))
 
   defines : (b : Bool) (r : List Val) (i : ℕ) (v : Val) (q : ℕ) → O DefineLocal (define A b s r f i v q)
@@ -157,7 +199,8 @@ module _ {Val Cells : Type 0} (A : Alg Val Cells) (s : State Val Cells) (f : Fra
       long = ap length (w .starts) ∙ length-append z st₀
 
 module _ {Val Cells : Type 0} (A : Alg Val Cells) (im : Image) (s : State Val Cells) (f : Frame) (lb : ℕ) (st₀ z : List ℕ) (w : Standing s f lb st₀ z) (i : Instr) where
-  takes′ : (o : OpCode) (n : ℕ) (k : List Val → List Val → Act Val Cells) → O A s f lb st₀ z w o (k (take n (s .operands)) (drop n (s .operands))) → O A s f lb st₀ z w o (taking n s k)
+  takes′ : (o : OpCode) (n : ℕ) (k : List Val → List Val → Act Val Cells) → O A s f lb st₀ z w o (k (take n (s .operands)) (drop n (s .operands))) → O
+      A s f lb st₀ z w o (taking n s k)
   takes′ = takes A s f lb st₀ z w
 
   leaf′ : (o : OpCode) (r : List Val) (q : ℕ) (x : Answer Val) → depthAfter o (length z) ≡ length z → O A s f lb st₀ z w o (answer A s r q x)

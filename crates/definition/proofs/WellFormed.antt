@@ -79,7 +79,8 @@ div-checked : (k : IntKind) (a b : ℤ) → Fits (checkedDiv k a b)
 unfolding checkedDiv
 div-checked k a b = picks (eqb (natAbs b) 0) ZeroDivisor (checked k (quotZ a b)) (λ e. tt) (checked-fits k (quotZ a b))
 
-arithmetic-fits : (f : IntKind → ℤ → ℤ → NumberAnswer) (g : Format → Ieee.Float → Ieee.Float → Ieee.Float) → ((k : IntKind) (a b : ℤ) → Fits (f k a b)) → ((d : Format) (x y : Ieee.Float) → T (fits d (g d x y)))
+arithmetic-fits : (f : IntKind → ℤ → ℤ → NumberAnswer) (g : Format → Ieee.Float → Ieee.Float → Ieee.Float) → ((k : IntKind) (a b : ℤ) → Fits (f k a
+    b)) → ((d : Format) (x y : Ieee.Float) → T (fits d (g d x y)))
     → (p : ScalarPair) → Fits (arithmetic f g p)
 arithmetic-fits f g h i (integers k a b) = h k a b
 arithmetic-fits f g h i (doubles a b) = is-true (fits binary64 (g binary64 a b)) (i binary64 a b)
@@ -140,7 +141,8 @@ negated a t = negate-fits (scalarOf a) t
 
 cast-integer-fits : (k : IntKind) (z : ℤ) → Fits (castInteger k z)
 unfolding castInteger
-cast-integer-fits k z = picks (eqb (intKindCode k) 1) (Value (Int (wrapping I64 z))) (pick (inRange k z) (Value (asKind k z)) InvalidCast) (λ e. wrapped-fits I64 z refl) (picks (inRange k z) (Value (asKind k z)) _ (as-kind k z) tt)
+cast-integer-fits k z = picks (eqb (intKindCode k) 1) (Value (Int (wrapping I64 z))) (pick (inRange k z) (Value (asKind k z)) InvalidCast) (λ e.
+    wrapped-fits I64 z refl) (picks (inRange k z) (Value (asKind k z)) _ (as-kind k z) tt)
 
 as-float-fits : (x : Scalar) → scalarFits x ≡ true → T (fits binary64 (asFloat x))
 as-float-fits (integer k z) t = ofInt-fits binary64 z
@@ -216,7 +218,8 @@ module _ (im : Image) (own : ℕ) where
 
   constant-formed : (c : Constant) → KeptHere c → wellFormed im (constantHead c) ≡ true
   unfolding constantHead
-  constant-formed c q = all-at (Formed (c .payload)) 0 (heads (c .payload)) (c .kind) null (by-kind (c .payload)) (listed-below (c .kind) (q .kind-listed)) (c .kind) (omega arith) q
+  constant-formed c q = all-at (Formed (c .payload)) 0 (heads (c .payload)) (c .kind) null (by-kind (c .payload)) (listed-below (c .kind) (q .kind-listed))
+      (c .kind) (omega arith) q
 
 -- ---- the length of an Arr
 abbrev AnswerFits : Answer Tree → Type 0
@@ -267,11 +270,13 @@ module _ (im : Image) (kept : Kept im) where
 
   constants-given : (c n : ℕ) → Given (constantAt (chunkAt im c .constants) n)
   unfolding chunkAt
-  constants-given c n = everywhere (λ (l : List Constant). Given (constantAt l n)) (im .chunks) c (λ j l. given j _ n (kept .chunks-kept j l .constants)) (given 0 [] n (λ j l. absurd (not-suc-le-zero l)))
+  constants-given c n = everywhere (λ (l : List Constant). Given (constantAt l n)) (im .chunks) c (λ j l. given j _ n (kept .chunks-kept j l .constants))
+      (given 0 [] n (λ j l. absurd (not-suc-le-zero l)))
 
   functions-named : (c n : ℕ) → Named (functionAt (chunkAt im c .constants) n)
   unfolding chunkAt
-  functions-named c n = everywhere (λ (l : List Constant). Named (functionAt l n)) (im .chunks) c (λ j l. named j _ n (kept .chunks-kept j l .constants)) (named 0 [] n (λ j l. absurd (not-suc-le-zero l)))
+  functions-named c n = everywhere (λ (l : List Constant). Named (functionAt l n)) (im .chunks) c (λ j l. named j _ n (kept .chunks-kept j l .constants))
+      (named 0 [] n (λ j l. absurd (not-suc-le-zero l)))
 
   pub closed : Closed im (wellFormed im)
   closed =

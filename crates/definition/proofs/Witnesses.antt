@@ -11,13 +11,59 @@ use lib.Dec.{eqb, lit<}
 use lib.ListN.{length, getD}
 use Rattle.definition.specs.Image.{Chunk, Image, chunkAt}
 use Rattle.definition.specs.Runner.{ascii}
-use Rattle.definition.specs.Lines.{image, split, digit, bytesOf, lineOf, numberFrom, printable, textOf, chunkOf, listed, widths, widthOf, scalar, allowed, constantOf, codeLine, codeOf, endOf, recordOf, reads, loadImage}
+use Rattle.definition.specs.Lines.{
+  image,
+  split,
+  digit,
+  bytesOf,
+  lineOf,
+  numberFrom,
+  printable,
+  textOf,
+  chunkOf,
+  listed,
+  widths,
+  widthOf,
+  scalar,
+  allowed,
+  constantOf,
+  codeLine,
+  codeOf,
+  endOf,
+  recordOf,
+  reads,
+  loadImage,
+}
 use Rattle.definition.specs.Table.{opCodes, Jump}
 use Rattle.definition.specs.Constants.{constantHead, constantAt, functionAt, strAt}
 use Rattle.definition.specs.Decode.{Instr, word, decode, targetAt, fault}
 use Rattle.definition.specs.StackCheck.{After, Reach, first, after, Sound, Heights, ChunkPasses, Passes}
 use Rattle.definition.specs.CheckAnswer.{pass, fails, Wrong, faulty, noHeights, Answers, passes, refuses}
-use Rattle.definition.specs.Step.{ifElse, orFault, taking, answer, grown, define, popScope, branch, call, propagate, capture, perform, fits, bounded, keptStarts, keptLocals, finishCall, carry, begin, budgeted, within, stepIn, step}
+use Rattle.definition.specs.Step.{
+  ifElse,
+  orFault,
+  taking,
+  answer,
+  grown,
+  define,
+  popScope,
+  branch,
+  call,
+  propagate,
+  capture,
+  perform,
+  fits,
+  bounded,
+  keptStarts,
+  keptLocals,
+  finishCall,
+  carry,
+  begin,
+  budgeted,
+  within,
+  stepIn,
+  step,
+}
 use Rattle.definition.specs.Value.{nest, nestOver, nests}
 use Rattle.definition.specs.Trees.{trees}
 use Rattle.definition.specs.Run.{Run, initial, at, trace, runFrames, run}
@@ -124,7 +170,9 @@ fails-second = refuses 10 1 0 (lit< tt) before (at-first (chunkAt second 1) 9 (l
 
 -- ---- A call that returned by a Propagate of an Err
 still-on : (k : ℕ) → 2 < k → k < 6 → depth (at trees (run trees calls 20 .states) 2) < depth (at trees (run trees calls 20 .states) k)
-unfolding chunkAt opCodes word decode targetAt constantHead constantAt functionAt strAt ifElse orFault taking answer grown define popScope branch call propagate capture perform fits bounded keptStarts keptLocals finishCall carry begin budgeted within stepIn step trace runFrames nest nestOver nests
+unfolding chunkAt opCodes word decode targetAt constantHead constantAt functionAt strAt ifElse orFault taking answer grown define popScope branch call
+    propagate capture perform fits bounded keptStarts keptLocals finishCall carry begin budgeted within stepIn step trace runFrames nest nestOver
+    nests
 still-on zero a b = absurd (omega arith)
 still-on (suc zero) a b = absurd (omega arith)
 still-on (suc (suc zero)) a b = absurd (omega arith)
@@ -134,7 +182,9 @@ still-on (suc (suc (suc (suc (suc zero))))) a b = lit< tt
 still-on (suc (suc (suc (suc (suc (suc k)))))) a b = absurd (omega arith)
 
 returned : CallReturned trees calls (run trees calls 20 .states) 2 6 1
-unfolding chunkAt opCodes word decode targetAt constantHead constantAt functionAt strAt ifElse orFault taking answer grown define popScope branch call propagate capture perform fits bounded keptStarts keptLocals finishCall carry begin budgeted within stepIn step trace runFrames nest nestOver nests
+unfolding chunkAt opCodes word decode targetAt constantHead constantAt functionAt strAt ifElse orFault taking answer grown define popScope branch call
+    propagate capture perform fits bounded keptStarts keptLocals finishCall carry begin budgeted within stepIn step trace runFrames nest nestOver
+    nests
 returned = record {
   caller = record { chunk = 0; position = 6; scopeBase = 0; localBase = 0; baseScopes = 0 };
   below = [];
@@ -147,7 +197,9 @@ returned = record {
 }
 
 returned-by : ReturnedBy trees calls (run trees calls 20 .states) 2 6
-unfolding chunkAt opCodes word decode targetAt constantHead constantAt functionAt strAt ifElse orFault taking answer grown define popScope branch call propagate capture perform fits bounded keptStarts keptLocals finishCall carry begin budgeted within stepIn step trace runFrames nest nestOver nests
+unfolding chunkAt opCodes word decode targetAt constantHead constantAt functionAt strAt ifElse orFault taking answer grown define popScope branch call
+    propagate capture perform fits bounded keptStarts keptLocals finishCall carry begin budgeted within stepIn step trace runFrames nest nestOver
+    nests
 returned-by = record {
   last = 5;
   just-before = refl;

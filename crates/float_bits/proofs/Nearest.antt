@@ -5,7 +5,29 @@ use mathlib.Core.Logic.{_⊎_, inl, inr}
 use mathlib.Core.Bool.{Bool, true, false, not, cond}
 use Prim.Native.Nat.{ℕ, zero, suc, _+_, _-_, _*_, _/_, _%_, _^_, _<_, _≤_, compare}
 use native.Mathlib.Omega.{arith}
-use native.Mathlib.Nat.{mul-pos, zero-add, le-antisymm, le-trans, le-of-eq, lt-of-le-of-lt, lt-of-lt-of-le, lt-of-not-le, lt-irrefl, mul-assoc, mul-one, one-mul, mul-comm, mul-le-mul-right, mul-le-mul-left, mul-div-cancel, le-div-iff-mul-le, div-one, add-assoc, zero-mul, le-of-mul-le-mul-right}
+use native.Mathlib.Nat.{
+  mul-pos,
+  zero-add,
+  le-antisymm,
+  le-trans,
+  le-of-eq,
+  lt-of-le-of-lt,
+  lt-of-lt-of-le,
+  lt-of-not-le,
+  lt-irrefl,
+  mul-assoc,
+  mul-one,
+  one-mul,
+  mul-comm,
+  mul-le-mul-right,
+  mul-le-mul-left,
+  mul-div-cancel,
+  le-div-iff-mul-le,
+  div-one,
+  add-assoc,
+  zero-mul,
+  le-of-mul-le-mul-right,
+}
 use lib.Dec.{T, leb, ltb, eqb, ltb→lt, nltb→le, leb→le, nleb→lt, lit≤, lit<}
 use mir.Facts.{no-eqb}
 use lib.Arith.{le→nltb}
@@ -157,7 +179,8 @@ edge q k a b h = sum (q-is (k-is (lt-of-not-le small))) (k-is (lt-of-not-le smal
     sum : 2 ^ 24 ≤ q → k ≡ 253 → k * 2 ^ 23 + q ≡ 255 * 2 ^ 23
     sum l e = omega arith
 
-units-bits : (s : Bool) (q k : ℕ) → q ≤ 2 ^ 24 → k ≤ 253 → (k ≡ 0) ⊎ (2 ^ 23 ≤ q) → T (fits binary32 (units binary32 s q k)) → units binary32 s q k ≡ ofBits binary32 (cond s (2 ^ 31) 0 + (k * 2 ^ 23 + q))
+units-bits : (s : Bool) (q k : ℕ) → q ≤ 2 ^ 24 → k ≤ 253 → (k ≡ 0) ⊎ (2 ^ 23 ≤ q) → T (fits binary32 (units binary32 s q k)) → units binary32 s q k ≡
+    ofBits binary32 (cond s (2 ^ 31) 0 + (k * 2 ^ 23 + q))
 units-bits s q k a b o fit = go (ltb (q * 2 ^ k) (2 ^ 277)) (ltb→lt (q * 2 ^ k) (2 ^ 277)) (nltb→le (q * 2 ^ k) (2 ^ 277))
   where
     go : (t : Bool) → (T t → q * 2 ^ k < 2 ^ 277) → (T (not t) → 2 ^ 277 ≤ q * 2 ^ k) → units binary32 s q k ≡ ofBits binary32 (cond s (2 ^ 31) 0 + (k * 2 ^ 23 + q))
@@ -186,8 +209,10 @@ module _ (s : Bool) (sig x : ℕ) (lo : 2 ^ 52 ≤ sig) (hi : sig < 2 ^ 53) (in-
       let w-lo : 2 ^ (23 + k) ≤ w = le-div-iff-mul-le (pow-pos 29) .1 (le-trans (le-of-eq (pw (23 + k) 29 52 k e1)) (mul-le-mul-right (2 ^ k) lo)) in
       let w-hi : w < 2 ^ suc (23 + k) = subst (λ (y : ℕ). w < 2 ^ y) e3 (shr-lt (24 + k) 29 (subst (λ (y : ℕ). sig * 2 ^ k < 2 ^ y) e2 (shl-lt 53 k hi))) in
       round-at s (sig * 2 ^ x) (2 ^ 1074) k (closest sig (2 ^ 29))
-      (ap (λ (y : ℕ). size y - 24) (div-same n (2 ^ 1074) (sig * 2 ^ k) (2 ^ 29) (pow-pos 1074) (pow-pos 29) cross) ∙ ap (λ (y : ℕ). y - 24) (size-exact (23 + k) w w-lo w-hi) ∙ over k)
-      (closest-same n (2 ^ 1074 * 2 ^ k) sig (2 ^ 29) (mul-pos (pow-pos 1074) (pow-pos k)) (pow-pos 29) (cross ∙ mul-assoc sig (2 ^ k) (2 ^ 1074) ∙ ap (λ (y : ℕ). sig * y) (mul-comm (2 ^ k) (2 ^ 1074))))
+      (ap (λ (y : ℕ). size y - 24) (div-same n (2 ^ 1074) (sig * 2 ^ k) (2 ^ 29) (pow-pos 1074) (pow-pos 29) cross) ∙ ap (λ (y : ℕ). y - 24)
+      (size-exact (23 + k) w w-lo w-hi) ∙ over k)
+      (closest-same n (2 ^ 1074 * 2 ^ k) sig (2 ^ 29) (mul-pos (pow-pos 1074) (pow-pos k)) (pow-pos 29) (cross ∙ mul-assoc sig (2 ^ k) (2 ^ 1074) ∙ ap
+      (λ (y : ℕ). sig * y) (mul-comm (2 ^ k) (2 ^ 1074))))
 
   kept-hi : closest sig (2 ^ 29) ≤ 2 ^ 24
   kept-hi = le-trans (nearest-le (sig / 2 ^ 29) (compare (sig % 2 ^ 29 * 2) (2 ^ 29))) (shr-lt 24 29 hi)
@@ -218,7 +243,8 @@ subnormal s sig x hi h =
     let exps : x + (149 + r) ≡ 1074 = omega arith in
     let e1 : 53 ≤ 24 + r = omega arith in
     let cross : n * 2 ^ r ≡ sig * 2 ^ 1074 =
-    mul-assoc (sig * 2 ^ x) (2 ^ 149) (2 ^ r) ∙ mul-assoc sig (2 ^ x) (2 ^ 149 * 2 ^ r) ∙ ap (λ (y : ℕ). sig * y) (ap (λ (y : ℕ). 2 ^ x * y) (sym (pow-add 2 149 r)) ∙ sym (pow-add 2 x (149 + r)) ∙ ap (λ (y : ℕ). 2 ^ y) exps) in
+    mul-assoc (sig * 2 ^ x) (2 ^ 149) (2 ^ r) ∙ mul-assoc sig (2 ^ x) (2 ^ 149 * 2 ^ r) ∙ ap (λ (y : ℕ). sig * y) (ap (λ (y : ℕ). 2 ^ x * y) (sym
+    (pow-add 2 149 r)) ∙ sym (pow-add 2 x (149 + r)) ∙ ap (λ (y : ℕ). 2 ^ y) exps) in
     let w-lt : sig / 2 ^ r < 2 ^ 24 = shr-lt 24 r (lt-of-lt-of-le hi (pow-mono e1)) in
     let is : round binary32 s (sig * 2 ^ x) (2 ^ 1074) ≡ units binary32 s (closest sig (2 ^ r)) 0 =
     round-at s (sig * 2 ^ x) (2 ^ 1074) 0 (closest sig (2 ^ r))
@@ -279,7 +305,8 @@ at-tiny : (s : Bool) (e d : ℕ) → d < 2 ^ 52 → e < 872 → NearestIs s e d 
 unfolding NearestIs
 at-tiny s zero d D b =
     let w : d < 2 ^ 53 = omega arith in
-    ap nearestBinary32 (at-zero s d) ∙ subnormal s d 0 w (lit≤ tt) ∙ ap (λ (y : ℕ). ofBits binary32 (cond s (2 ^ 31) 0 + y)) (closest-zero d (2 ^ 925) (lt-of-lt-of-le (twice d w) (lit≤ tt)))
+    ap nearestBinary32 (at-zero s d) ∙ subnormal s d 0 w (lit≤ tt) ∙ ap (λ (y : ℕ). ofBits binary32 (cond s (2 ^ 31) 0 + y)) (closest-zero d (2 ^ 925)
+    (lt-of-lt-of-le (twice d w) (lit≤ tt)))
   where
     twice : (d : ℕ) → d < 2 ^ 53 → d * 2 < 2 ^ 54
     twice d h = omega arith
@@ -340,8 +367,10 @@ module _ (s : Bool) (m : ℕ) (fit : m < 2 ^ 63) where
       D = omega arith
 
       go : (t u v w : Bool) → (T t → 0x7ff0_0000_0000_0000 < m) → (T (not t) → m ≤ 0x7ff0_0000_0000_0000)
-          → (T u → 1151 ≤ m / 2 ^ 52) → (T (not u) → m / 2 ^ 52 < 1151) → (T v → 897 ≤ m / 2 ^ 52) → (T (not v) → m / 2 ^ 52 < 897) → (T w → 872 ≤ m / 2 ^ 52) → (T (not w) → m / 2 ^ 52 < 872)
-          → NearestIs s (m / 2 ^ 52) (m % 2 ^ 52) (cond t 0x7fc0_0000 (cond u 0x7f80_0000 (cond v ((m / 2 ^ 52 - 897) * 2 ^ 23 + closest (2 ^ 52 + m % 2 ^ 52) (2 ^ 29)) (cond w (closest (2 ^ 52 + m % 2 ^ 52) (2 ^ (926 - m / 2 ^ 52))) 0))))
+          → (T u → 1151 ≤ m / 2 ^ 52) → (T (not u) → m / 2 ^ 52 < 1151) → (T v → 897 ≤ m / 2 ^ 52) → (T (not v) → m / 2 ^ 52 < 897) → (T w → 872 ≤ m /
+          2 ^ 52) → (T (not w) → m / 2 ^ 52 < 872)
+          → NearestIs s (m / 2 ^ 52) (m % 2 ^ 52) (cond t 0x7fc0_0000 (cond u 0x7f80_0000 (cond v ((m / 2 ^ 52 - 897) * 2 ^ 23 + closest (2 ^ 52 + m %
+          2 ^ 52) (2 ^ 29)) (cond w (closest (2 ^ 52 + m % 2 ^ 52) (2 ^ (926 - m / 2 ^ 52))) 0))))
       go true u v w a _ _ _ _ _ _ _ =
           let h = a tt in
           let x : m / 2 ^ 52 ≡ 2047 = omega arith in

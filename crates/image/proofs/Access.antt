@@ -99,7 +99,8 @@ module _ (ts : List (List ℕ)) (cs : List Chunk) where
   pub constants-before : (c : ℕ) → c ≤ length cs → getD table (4 * c + 2) 0 ≡ length (constantsOf (take c cs))
   constants-before c h =
       row-at 0 (length (flat ts)) cs (0 ∷ 0 ∷ length (constantsOf cs) ∷ length (flat ts ++ codeIn cs) ∷ []) c 2 h
-      ∙ third (0 + length (constantsOf (take c cs))) (length (flat ts) + length (codeIn (take c cs))) (length (constantsOf cs)) (length (flat ts ++ codeIn cs)) (drop c cs) (omega (arith, constants-cut cs c))
+      ∙ third (0 + length (constantsOf (take c cs))) (length (flat ts) + length (codeIn (take c cs))) (length (constantsOf cs)) (length (flat ts ++
+      codeIn cs)) (drop c cs) (omega (arith, constants-cut cs c))
       ∙ plus (length (constantsOf (take c cs)))
     where
       plus : (n : ℕ) → 0 + n ≡ n
@@ -108,7 +109,8 @@ module _ (ts : List (List ℕ)) (cs : List Chunk) where
   pub bytes-before : (c : ℕ) → c ≤ length cs → getD table (4 * c + 3) 0 ≡ length (flat ts) + length (codeIn (take c cs))
   bytes-before c h =
       row-at 0 (length (flat ts)) cs (0 ∷ 0 ∷ length (constantsOf cs) ∷ length (flat ts ++ codeIn cs) ∷ []) c 3 h
-      ∙ fourth (0 + length (constantsOf (take c cs))) (length (flat ts) + length (codeIn (take c cs))) (length (constantsOf cs)) (length (flat ts ++ codeIn cs)) (drop c cs) (omega (arith, code-cut cs c, length-append (flat ts) (codeIn cs)))
+      ∙ fourth (0 + length (constantsOf (take c cs))) (length (flat ts) + length (codeIn (take c cs))) (length (constantsOf cs)) (length (flat ts ++
+      codeIn cs)) (drop c cs) (omega (arith, code-cut cs c, length-append (flat ts) (codeIn cs)))
 
   pub arity-here : (c : ℕ) → c < length cs → getD table (4 * c) 0 ≡ at cs c .arity
   arity-here c h =
@@ -145,14 +147,27 @@ module _ (ts : List (List ℕ)) (cs : List Chunk) (c : ℕ) (h : c < length cs) 
 
   pub constants-here : (f : Constant → ℕ) → cut (getD (table ts cs) (4 * c + 2) 0) (getD (table ts cs) (4 * c + 6) 0) (map f (constantsOf cs)) ≡ map f (at cs c .constants)
   constants-here f =
-      rw (six, constants-before ts cs c le, constants-before ts cs (suc c) h, constants-next cs c h, constants-split cs c h, map-append, map-append f (at cs c .constants) (constantsOf (drop (suc c) cs)))
-      (cut-here (map f (constantsOf (take c cs))) (map f (at cs c .constants)) (map f (constantsOf (drop (suc c) cs))) _ _ (length-map f (constantsOf (take c cs))) (rw (length-map f (constantsOf (take c cs)), length-map f (at cs c .constants))))
+      rw (
+        six,
+        constants-before ts cs c le,
+        constants-before ts cs (suc c) h,
+        constants-next cs c h,
+        constants-split cs c h,
+        map-append,
+        map-append f
+            (at cs c .constants) (constantsOf (drop (suc c) cs)),
+      )
+      (cut-here (map f (constantsOf (take c cs))) (map f (at cs c .constants)) (map f (constantsOf (drop (suc c) cs))) _ _ (length-map f (constantsOf
+      (take c cs))) (rw (length-map f (constantsOf (take c cs)), length-map f (at cs c .constants))))
 
   pub code-here : cut (getD (table ts cs) (4 * c + 3) 0) (getD (table ts cs) (4 * c + 7) 0) (flat ts ++ codeIn cs) ≡ at cs c .code
   code-here =
       rw (seven, bytes-before ts cs c le, bytes-before ts cs (suc c) h, code-next cs c h, code-split cs c h)
-      (ap (cut (length (flat ts) + length (codeIn (take c cs))) (length (flat ts) + (length (codeIn (take c cs)) + length (at cs c .code)))) (sym (append-assoc (flat ts) (codeIn (take c cs)) (at cs c .code ++ codeIn (drop (suc c) cs))))
-      ∙ cut-here (flat ts ++ codeIn (take c cs)) (at cs c .code) (codeIn (drop (suc c) cs)) (length (flat ts) + length (codeIn (take c cs))) (length (flat ts) + (length (codeIn (take c cs)) + length (at cs c .code))) (length-append (flat ts) (codeIn (take c cs))) (rw length-append (omega arith)))
+      (ap (cut (length (flat ts) + length (codeIn (take c cs))) (length (flat ts) + (length (codeIn (take c cs)) + length (at cs c .code)))) (sym
+      (append-assoc (flat ts) (codeIn (take c cs)) (at cs c .code ++ codeIn (drop (suc c) cs))))
+      ∙ cut-here (flat ts ++ codeIn (take c cs)) (at cs c .code) (codeIn (drop (suc c) cs)) (length (flat ts) + length (codeIn (take c cs))) (length
+      (flat ts) + (length (codeIn (take c cs)) + length (at cs c .code))) (length-append (flat ts) (codeIn (take c cs))) (rw length-append (omega
+      arith)))
 
 -- texts: where they end
 pub ends-rise : (n : ℕ) (ts : List (List ℕ)) (i : ℕ) → i < length ts → getD (n ∷ endsFrom n ts) i 0 ≤ getD (endsFrom n ts) i 0

@@ -12,13 +12,49 @@ use Rattle.definition.specs.Image.{Chunk, chunkAt, textAt}
 use Rattle.definition.specs.Lines.{Load, image, refused, constantsOf, loadImage}
 use Rattle.definition.specs.Loaded.{noConstant}
 use Rattle.definition.proofs.Keeps.{loads-kept}
-use Rattle.image.specs.Answer.{numberOf, Slices, holds, refuses, encoded, short, loadIn, flat, codeIn, endsFrom, rowsFrom, kindOf, payloadOf, slicesOf, countsOf, filled, Loads}
+use Rattle.image.specs.Answer.{
+  numberOf,
+  Slices,
+  holds,
+  refuses,
+  encoded,
+  short,
+  loadIn,
+  flat,
+  codeIn,
+  endsFrom,
+  rowsFrom,
+  kindOf,
+  payloadOf,
+  slicesOf,
+  countsOf,
+  filled,
+  Loads,
+}
 use Rattle.image.specs.Held.{cut, HeldChunk, HeldText, Held, Found}
 use Rattle.image_records.specs.declared.Reason.{Reason}
 use Rattle.image.specs.declared.Counts.{Counts}
 use Rattle.image.specs.declared.LoadAnswer.{LoadAnswer}
 use Rattle.image.specs.declared.LoadAnswer.the-variants.{Loaded, Refused}
-use Rattle.image.proofs.Access.{at, table, constants-before, bytes-before, arity-here, name-here, constants-next, code-next, constants-cut, code-cut, length-map, constants-here, code-here, text-here, ends-rise, ends-within, ends-length}
+use Rattle.image.proofs.Access.{
+  at,
+  table,
+  constants-before,
+  bytes-before,
+  arity-here,
+  name-here,
+  constants-next,
+  code-next,
+  constants-cut,
+  code-cut,
+  length-map,
+  constants-here,
+  code-here,
+  text-here,
+  ends-rise,
+  ends-within,
+  ends-length,
+}
 
 cut-prefix : (s n e : ℕ) (l : List ℕ) → e ≤ n → cut s e (take n l) ≡ cut s e l
 cut-prefix zero n e l h = let z : e - 0 ≤ n = omega arith in take-take (e - 0) n l z
@@ -34,7 +70,8 @@ rows-length : (nc nb : ℕ) (cs : List Chunk) → length (rowsFrom nc nb cs) ≡
 rows-length nc nb [] = refl
 rows-length nc nb (c ∷ cs) = omega (arith, rows-length (nc + length (c .constants)) (nb + length (c .code)) cs)
 
-module _ (ts : List (List ℕ)) (cs : List Chunk) (n : Counts) (m : Slices) (counts : n ≡ countsOf (record { texts = ts; chunks = cs })) (same : filled n m ≡ slicesOf (record { texts = ts; chunks = cs })) where
+module _ (ts : List (List ℕ)) (cs : List Chunk) (n : Counts) (m : Slices) (counts : n ≡ countsOf (record { texts = ts; chunks = cs })) (same : filled
+    n m ≡ slicesOf (record { texts = ts; chunks = cs })) where
   text-many : n .texts ≡ length ts
   unfolding countsOf
   text-many = ap (λ (z : Counts). z .texts) counts
@@ -129,8 +166,10 @@ module _ (ts : List (List ℕ)) (cs : List Chunk) (n : Counts) (m : Slices) (cou
           constants-rise = omega (arith, c2, c6);
           kinds-within = omega (arith, c6-few, taken (n .constants) (m .kinds) _ kinds-all (length-map kindOf (constantsOf cs) ∙ sym constant-many));
           payloads-within = omega (arith, c6-few, taken (n .constants) (m .payloads) _ payloads-all (length-map payloadOf (constantsOf cs) ∙ sym constant-many));
-          kinds-are = sym (cut-prefix (getD (m .table) (4 * c + 2) 0) (n .constants) (getD (m .table) (4 * c + 6) 0) (m .kinds) c6-few) ∙ rw (kinds-all, e2, e6) (constants-here ts cs c h kindOf);
-          payloads-are = sym (cut-prefix (getD (m .table) (4 * c + 2) 0) (n .constants) (getD (m .table) (4 * c + 6) 0) (m .payloads) c6-few) ∙ rw (payloads-all, e2, e6) (constants-here ts cs c h payloadOf);
+          kinds-are = sym (cut-prefix (getD (m .table) (4 * c + 2) 0) (n .constants) (getD (m .table) (4 * c + 6) 0) (m .kinds) c6-few) ∙ rw
+              (kinds-all, e2, e6) (constants-here ts cs c h kindOf);
+          payloads-are = sym (cut-prefix (getD (m .table) (4 * c + 2) 0) (n .constants) (getD (m .table) (4 * c + 6) 0) (m .payloads) c6-few) ∙ rw
+              (payloads-all, e2, e6) (constants-here ts cs c h payloadOf);
           code-rises = omega (arith, c3, c7);
           code-within = omega (arith, c7-few, bytes-long);
           code-is = sym (cut-prefix (getD (m .table) (4 * c + 3) 0) (n .bytes) (getD (m .table) (4 * c + 7) 0) (m .bytes) c7-few) ∙ rw (bytes-are, e3, e7) (code-here ts cs c h);
@@ -156,7 +195,8 @@ module _ (ts : List (List ℕ)) (cs : List Chunk) (n : Counts) (m : Slices) (cou
           end-within = omega (arith, text-many, taken (n .texts) (m .ends) (endsFrom 0 ts) ends-are (ends-length 0 ts ∙ sym text-many));
           text-rises = rw (start-is, end-is) (ends-rise 0 ts t h);
           text-within = omega (arith, end-few, bytes-long);
-          text-is = sym (cut-prefix (getD (0 ∷ m .ends) t 0) (n .bytes) (getD (m .ends) t 0) (m .bytes) end-few) ∙ rw (bytes-are, start-is, end-is) (text-here 0 [] ts (codeIn cs) t refl h);
+          text-is = sym (cut-prefix (getD (0 ∷ m .ends) t 0) (n .bytes) (getD (m .ends) t 0) (m .bytes) end-few) ∙ rw (bytes-are, start-is, end-is)
+              (text-here 0 [] ts (codeIn cs) t refl h);
         }
 
   held : Held m n (record { texts = ts; chunks = cs })
@@ -176,7 +216,8 @@ never z = absurd (no z)
     no z = omega arith
 
 -- what an answer says of the image
-loaded-as : (bytes : List ℕ) (m m′ : Slices) (n : Counts) (t : Bool) (x : Load) → t ≡ short m → x ≡ loadImage bytes → holds n (filled n m′) ≡ cond t (refuses 9 0) (encoded x) → Found bytes m m′ n
+loaded-as : (bytes : List ℕ) (m m′ : Slices) (n : Counts) (t : Bool) (x : Load) → t ≡ short m → x ≡ loadImage bytes → holds n (filled n m′) ≡ cond t
+    (refuses 9 0) (encoded x) → Found bytes m m′ n
 loaded-as bytes m m′ n true x s l e = never (cc)
 loaded-as bytes m m′ n false (image im) s l e =
     record {
@@ -198,7 +239,8 @@ refused-by false (image im) n k e = never (cc)
 refused-by false (refused m l) n k e = inr (cc)
 
 -- a refusal: a slice is short, or it is the definition's
-pub refused-as : (bytes : List ℕ) (m m′ : Slices) (r : LoadAnswer) (f : Reason) (k : ℕ) → r ≡ Refused f k → Loads bytes m r m′ → (short m ≡ true) ⊎ (loadImage bytes ≡ refused (numberOf f) k)
+pub refused-as : (bytes : List ℕ) (m m′ : Slices) (r : LoadAnswer) (f : Reason) (k : ℕ) → r ≡ Refused f k → Loads bytes m r m′ → (short m ≡ true) ⊎
+    (loadImage bytes ≡ refused (numberOf f) k)
 unfolding loadIn
 refused-as bytes m m′ r f k q l = refused-by (short m) (loadImage bytes) (numberOf f) k (rw q at (l .answer))
 
@@ -223,7 +265,8 @@ module _ (m : Slices) (c : ℕ) (d : Chunk) (h : HeldChunk m c d) where
   code-to = getD (m .table) (4 * c + 7) 0
 
   pub constant-count : constants-to - constants-from ≡ length (d .constants)
-  constant-count = sym (cut-length constants-from constants-to (m .kinds) (map kindOf (d .constants)) (h .kinds-are) (h .constants-rise) (h .kinds-within)) ∙ length-map kindOf (d .constants)
+  constant-count = sym (cut-length constants-from constants-to (m .kinds) (map kindOf (d .constants)) (h .kinds-are) (h .constants-rise) (h .kinds-within))
+      ∙ length-map kindOf (d .constants)
 
   pub code-length : code-to - code-from ≡ length (d .code)
   code-length = sym (cut-length code-from code-to (m .bytes) (d .code) (h .code-is) (h .code-rises) (h .code-within))
@@ -236,7 +279,8 @@ module _ (m : Slices) (c : ℕ) (d : Chunk) (h : HeldChunk m c d) where
   pub payload-at : (k : ℕ) → k < length (d .constants) → getD (m .payloads) (constants-from + k) 0 ≡ getD (d .constants) k noConstant .payload
   payload-at k l =
       let z = constant-count in
-      sym (cut-at constants-from constants-to (m .payloads) k (omega arith)) ∙ ap (λ (x : List ℕ). getD x k 0) (h .payloads-are) ∙ List·getD-map payloadOf (d .constants) k noConstant
+      sym (cut-at constants-from constants-to (m .payloads) k (omega arith)) ∙ ap (λ (x : List ℕ). getD x k 0) (h .payloads-are) ∙ List·getD-map
+      payloadOf (d .constants) k noConstant
 
   pub code-at : (i : ℕ) → i < length (d .code) → getD (m .bytes) (code-from + i) 0 ≡ getD (d .code) i 0
   code-at i l =

@@ -8,7 +8,46 @@ use borrow.Author.Tests.{lt-ltb, le-ltb, ltb-true, ltb-false}
 use lib.Dec.{ltb, leb, eqb}
 use lib.ListN.{length, length-append}
 use Rattle.definition.specs.Image.{Constant, Chunk, Image}
-use Rattle.definition.specs.Lines.{image, refused, isEmpty, split, Line, line, faulty, lineOf, text, opens, constant, code, ends, fault, recordOf, inTexts, inConstants, inCode, afterShort, takesText, partAfterCode, openChunk, onOpen, seen, addText, opened, addChunk, withConstant, addConstant, withCode, addCode, constantsOf, allNamed, ending, follow, reads, blank, loadImage}
+use Rattle.definition.specs.Lines.{
+  image,
+  refused,
+  isEmpty,
+  split,
+  Line,
+  line,
+  faulty,
+  lineOf,
+  text,
+  opens,
+  constant,
+  code,
+  ends,
+  fault,
+  recordOf,
+  inTexts,
+  inConstants,
+  inCode,
+  afterShort,
+  takesText,
+  partAfterCode,
+  openChunk,
+  onOpen,
+  seen,
+  addText,
+  opened,
+  addChunk,
+  withConstant,
+  addConstant,
+  withCode,
+  addCode,
+  constantsOf,
+  allNamed,
+  ending,
+  follow,
+  reads,
+  blank,
+  loadImage,
+}
 use Rattle.definition.specs.Lines.{Part as FormatPart, Record as FormatRecord, onLine as formatLine}
 use Rattle.definition.proofs.Judged.{true-not-false, false-not-true, LineBytes, line-bytes, Told, told}
 use Rattle.definition.proofs.Keeps.{open-length, empty-snoc, empty-open, constant-no-text, code-no-text, after-code-no-text}
@@ -215,7 +254,9 @@ module _ (p : FormatPart) (ts : List (List ℕ)) where
   unfolding grow encode
   step-chunk a n cs =
       parts-all
-      (state-eq refl refl (length-snoc cs (opened a n)) (sym (ap (λ (c : Chunk). length (c .constants)) (open-snoc cs (opened a n)))) (sym (ap (λ (c : Chunk). length (c .code)) (open-snoc cs (opened a n)))) (ap (namedFrom 0) (sym (constants-snoc a n cs))) (ap length (sym (constants-snoc a n cs))) (ap (λ (l : List ℕ). length (flat ts ++ l)) (sym (code-snoc a n cs))) (length-snoc cs (opened a n)))
+      (state-eq refl refl (length-snoc cs (opened a n)) (sym (ap (λ (c : Chunk). length (c .constants)) (open-snoc cs (opened a n)))) (sym (ap (λ (c :
+      Chunk). length (c .code)) (open-snoc cs (opened a n)))) (ap (namedFrom 0) (sym (constants-snoc a n cs))) (ap length (sym (constants-snoc a n
+      cs))) (ap (λ (l : List ℕ). length (flat ts ++ l)) (sym (code-snoc a n cs))) (length-snoc cs (opened a n)))
       (append-nil _ ∙ ap (λ (l : List ℕ). flat ts ++ l) (sym (code-snoc a n cs)))
       (append-nil _)
       (append-nil _ ∙ ap (map kindOf) (sym (constants-snoc a n cs)))
@@ -273,11 +314,13 @@ outcome-eq : {n : _} {a b c d e a′ b′ c′ d′ e′ : List ℕ} → a ≡ a
 outcome-eq q r s t u = rw (q, r, s, t, u)
 
 -- the end
-whole-image : (p : FormatPart) (ts : List (List ℕ)) (cs : List Chunk) → holds (countsIn (grow (encode p (of ts cs)) ends .numbers)) (grow (encode p (of ts cs)) ends .held) ≡ holds (countsOf (of ts cs)) (slicesOf (of ts cs))
+whole-image : (p : FormatPart) (ts : List (List ℕ)) (cs : List Chunk) → holds (countsIn (grow (encode p (of ts cs)) ends .numbers)) (grow (encode p
+    (of ts cs)) ends .held) ≡ holds (countsOf (of ts cs)) (slicesOf (of ts cs))
 unfolding grow encode countsOf slicesOf
 whole-image p ts cs = outcome-eq (append-nil _) (append-nil _) (append-nil _) (append-nil _) refl
 
-named-grown : (p : FormatPart) (ts : List (List ℕ)) (cs : List Chunk) → ltb (grow (encode p (of ts cs)) ends .numbers .named) (grow (encode p (of ts cs)) ends .numbers .chunks) ≡ ltb (namedFrom 0 (constantsOf cs)) (length cs)
+named-grown : (p : FormatPart) (ts : List (List ℕ)) (cs : List Chunk) → ltb (grow (encode p (of ts cs)) ends .numbers .named) (grow (encode p (of ts
+    cs)) ends .numbers .chunks) ≡ ltb (namedFrom 0 (constantsOf cs)) (length cs)
 unfolding grow encode
 named-grown p ts cs = refl
 
@@ -285,7 +328,8 @@ by-end : (p : FormatPart) (ts : List (List ℕ)) (cs : List Chunk) (last : Bool)
 by-end p ts cs last h =
     rw (named-grown p ts cs, named-all (length cs) (constantsOf cs) 0, lt-ltb 0 (length cs) h, whole-image p ts cs) (by last (allNamed (length cs) (constantsOf cs)))
   where
-    by : (t u : Bool) → cond t (cond u (holds (countsOf (of ts cs)) (slicesOf (of ts cs))) (refuses 7 0)) (refuses 6 0) ≡ encoded (cond t (cond u (image (of ts cs)) (refused 7 0)) (refused 6 0))
+    by : (t u : Bool) → cond t (cond u (holds (countsOf (of ts cs)) (slicesOf (of ts cs))) (refuses 7 0)) (refuses 6 0) ≡ encoded (cond t (cond u
+        (image (of ts cs)) (refused 7 0)) (refused 6 0))
     by true true = refl
     by true false = refl
     by false u = refl
@@ -297,7 +341,8 @@ same-seen p im = rw (part-back p)
 
 module _
     (ls : List (List ℕ)) (left : List ℕ) (p : FormatPart) (ts : List (List ℕ)) (cs : List Chunk) (k : ℕ) (h : isEmpty cs ≡ takesText p)
-    (after : (p′ : FormatPart) (ts′ : List (List ℕ)) (cs′ : List Chunk) → isEmpty cs′ ≡ takesText p′ → go ls left (encode p′ (of ts′ cs′)) (k + 1) ≡ encoded (reads ls left p′ (of ts′ cs′) (k + 1)))
+    (after : (p′ : FormatPart) (ts′ : List (List ℕ)) (cs′ : List Chunk) → isEmpty cs′ ≡ takesText p′ → go ls left (encode p′ (of ts′ cs′)) (k + 1) ≡
+    encoded (reads ls left p′ (of ts′ cs′) (k + 1)))
     (last : Bool)
   where
     by-record :

@@ -25,7 +25,30 @@ use Rattle.image_store.specs.Stored.{advance, Fine, Accepted, finishOf}
 use Rattle.image_store.specs.declared.Turn.{Turn}
 use Rattle.image_store.specs.declared.Turn.the-variants.{Next, Ready, Stop}
 use Rattle.image.specs.Answer.{Slices, holds, refuses, encoded, short, loadIn, Behind, BehindMost, blanked, Loads}
-use Rattle.image.specs.Turns.{Parts, none-yet, grow, countsIn, onRecord, onLine, go, goes, loadOf, heldBy, partsOf, Roomy, Sized, turnOf, BehindState, TurnFits, Grows, TurnLeft, TakesLine, LoadsLines, isRefused, LoadsSettled}
+use Rattle.image.specs.Turns.{
+  Parts,
+  none-yet,
+  grow,
+  countsIn,
+  onRecord,
+  onLine,
+  go,
+  goes,
+  loadOf,
+  heldBy,
+  partsOf,
+  Roomy,
+  Sized,
+  turnOf,
+  BehindState,
+  TurnFits,
+  Grows,
+  TurnLeft,
+  TakesLine,
+  LoadsLines,
+  isRefused,
+  LoadsSettled,
+}
 use Rattle.image.specs.declared.LoadAnswer.{LoadAnswer}
 use Rattle.image.specs.declared.LoadAnswer.the-variants.{Loaded, Refused}
 use Rattle.image.proofs.Grown.{fine, grown}
@@ -56,7 +79,8 @@ last-line : (image : List ℕ) (j : ℕ) → (isEmpty (split (drop j image) .lin
 last-line image j = all-read (drop j image) ∙ empty-length (drop j image) ∙ rw length-drop
 
 -- one line
-go-line : (l : List ℕ) (ls : List (List ℕ)) (left : List ℕ) (p : Parts) (k : ℕ) → go (l ∷ ls) left p k ≡ onLine p (k + 1) (isEmpty ls && isEmpty left) (λ q. go ls left q (k + 1)) (lineOf l)
+go-line : (l : List ℕ) (ls : List (List ℕ)) (left : List ℕ) (p : Parts) (k : ℕ) → go (l ∷ ls) left p k ≡ onLine p (k + 1) (isEmpty ls && isEmpty left)
+    (λ q. go ls left q (k + 1)) (lineOf l)
 unfolding go
 go-line l ls left p k = refl
 
@@ -132,7 +156,8 @@ behind-most s m m′ w b =
 
 -- what a record leads to
 module _ (image b : List ℕ) (p : Parts) (t : State) (k next left : ℕ) (last : Bool) (m : Slices) where
-  closed : (v w : Bool) → turnOf (cond v (cond w (Ready t) (Stop NoSuchChunk 0)) (Stop NoEnd 0)) image k m ≡ cond v (cond w (holds (countsIn t) (heldBy t m)) (refuses 7 0)) (refuses 6 0)
+  closed : (v w : Bool) → turnOf (cond v (cond w (Ready t) (Stop NoSuchChunk 0)) (Stop NoEnd 0)) image k m ≡ cond v (cond w (holds (countsIn t)
+      (heldBy t m)) (refuses 7 0)) (refuses 6 0)
   closed true true = refl
   closed true false = refl
   closed false w = refl
@@ -148,12 +173,63 @@ module _ (image b : List ℕ) (p : Parts) (t : State) (k next left : ℕ) (last 
   settled (Fault f) e g = refl
 
 -- the bounds after a line
-module _ (s : State) (b : List ℕ) (at end size : ℕ) (sized : Sized s at) (digits : 2 * (length b + 1) ≡ end - at) (order : at ≤ end) (within : end < size) (small : size ≤ 65536) where
+module _ (s : State) (b : List ℕ) (at end size : ℕ) (sized : Sized s at) (digits : 2 * (length b + 1) ≡ end - at) (order : at ≤ end) (within : end <
+    size) (small : size ≤ 65536) where
   turn-fits : (r : Record) (left k : ℕ) → Fine s (length b) r → TurnFits (finishOf r (advance s (says r b)) (end + 1) left k) at size
-  turn-fits Text left k h = (record { few-bytes = omega arith; few-constants = omega arith; few-texts = omega arith; few-chunks = sized .few-chunks; as-rows = sized .as-rows; short-code = sized .short-code; few-own = sized .few-own }, omega arith, omega arith)
-  turn-fits (Opens arity name) left k h = (record { few-bytes = omega arith; few-constants = omega arith; few-texts = sized .few-texts; few-chunks = omega arith; as-rows = omega (arith, sized .as-rows); short-code = omega arith; few-own = omega arith }, omega arith, omega arith)
-  turn-fits (Constant kind v) left k h = (record { few-bytes = omega arith; few-constants = omega (arith, h .1); few-texts = sized .few-texts; few-chunks = sized .few-chunks; as-rows = sized .as-rows; short-code = sized .short-code; few-own = omega (arith, h .0) }, omega arith, omega arith)
-  turn-fits Code left k h = (record { few-bytes = omega arith; few-constants = omega arith; few-texts = sized .few-texts; few-chunks = sized .few-chunks; as-rows = sized .as-rows; short-code = h; few-own = sized .few-own }, omega arith, omega arith)
+  turn-fits Text left k h = (
+    record {
+      few-bytes = omega arith;
+      few-constants = omega arith;
+      few-texts = omega arith;
+      few-chunks = sized .few-chunks;
+      as-rows = sized .as-rows;
+      short-code = sized .short-code;
+      few-own = sized .few-own;
+    },
+    omega arith,
+    omega arith,
+  )
+  turn-fits (Opens arity name) left k h = (
+    record {
+      few-bytes = omega arith;
+      few-constants = omega arith;
+      few-texts = sized .few-texts;
+      few-chunks =
+          omega arith;
+      as-rows = omega (arith, sized .as-rows);
+      short-code = omega arith;
+      few-own = omega arith;
+    },
+    omega arith,
+    omega arith,
+  )
+  turn-fits (Constant kind v) left k h = (
+    record {
+      few-bytes = omega arith;
+      few-constants = omega (arith, h .1);
+      few-texts = sized .few-texts;
+      few-chunks = sized .few-chunks;
+      as-rows = sized .as-rows;
+      short-code = sized .short-code;
+      few-own = omega (arith, h .0);
+    },
+    omega arith,
+    omega
+        arith,
+  )
+  turn-fits Code left k h = (
+    record {
+      few-bytes = omega arith;
+      few-constants = omega arith;
+      few-texts = sized .few-texts;
+      few-chunks = sized .few-chunks;
+      as-rows = sized .as-rows;
+      short-code = h;
+      few-own = sized .few-own;
+    },
+    omega arith,
+    omega arith,
+  )
   turn-fits Ends left k h =
       cond-elim (λ r. TurnFits r at size) (eqb left 0)
       (λ _. cond-elim (λ r. TurnFits r at size) (ltb (s .named) (s .chunks)) (λ _. omega (arith, sized .as-rows)) (λ _. tt))
@@ -161,11 +237,44 @@ module _ (s : State) (b : List ℕ) (at end size : ℕ) (sized : Sized s at) (di
   turn-fits (Fault f) left k h = tt
 
   state-within : (r : Record) → Fine s (length b) r → Within (advance s (says r b))
-  state-within Text h = record { within-texts = omega arith; within-constants = omega (arith, sized .few-constants); within-rows = omega (arith, sized .as-rows, sized .few-chunks) }
-  state-within (Opens arity name) h = record { within-texts = sized .few-texts; within-constants = omega (arith, sized .few-constants); within-rows = omega (arith, sized .as-rows) }
-  state-within (Constant kind v) h = record { within-texts = sized .few-texts; within-constants = omega (arith, sized .few-constants, h .1); within-rows = omega (arith, sized .as-rows, sized .few-chunks) }
-  state-within Code h = record { within-texts = sized .few-texts; within-constants = omega (arith, sized .few-constants); within-rows = omega (arith, sized .as-rows, sized .few-chunks) }
-  state-within Ends h = record { within-texts = sized .few-texts; within-constants = omega (arith, sized .few-constants); within-rows = omega (arith, sized .as-rows, sized .few-chunks) }
+  state-within Text h = record {
+    within-texts = omega arith;
+    within-constants = omega (arith, sized .few-constants);
+    within-rows = omega (
+      arith,
+      sized .as-rows,
+      sized .few-chunks,
+    );
+  }
+  state-within (Opens arity name) h = record {
+    within-texts = sized .few-texts;
+    within-constants = omega (arith, sized .few-constants);
+    within-rows =
+        omega (arith, sized .as-rows);
+  }
+  state-within (Constant kind v) h = record {
+    within-texts = sized .few-texts;
+    within-constants = omega (arith, sized .few-constants, h .1);
+    within-rows = omega (arith, sized .as-rows, sized .few-chunks);
+  }
+  state-within Code h = record {
+    within-texts = sized .few-texts;
+    within-constants = omega (arith, sized .few-constants);
+    within-rows = omega (
+      arith,
+      sized .as-rows,
+      sized .few-chunks,
+    );
+  }
+  state-within Ends h = record {
+    within-texts = sized .few-texts;
+    within-constants = omega (arith, sized .few-constants);
+    within-rows = omega (
+      arith,
+      sized .as-rows,
+      sized .few-chunks,
+    );
+  }
   state-within (Fault f) h = sized-within s at (omega arith) sized
 
 grows : (s : State) (b : List ℕ) (r : Record) → Grows s (advance s (says r b))
@@ -237,7 +346,8 @@ bytes-left B out′ from digits small room few same behind =
     let z : 32768 ≡ from + (32768 - from) = omega arith in
     let l : length (take (length B - from) (drop from B)) ≡ length B - from = length-take-le (length B - from) (drop from B) (rw length-drop (omega arith)) in
     rw z (bytes-behind B (take (length B - from) (drop from B)) out′ (drop (length B - from) (drop from B)) from (32768 - from) (omega arith)
-    (sym (ap (λ (x : List ℕ). take from B ++ x) (take-append-drop (length B - from) (drop from B)) ∙ take-append-drop from B)) same (rw l (omega arith)) (behind (32768 - from) few))
+    (sym (ap (λ (x : List ℕ). take from B ++ x) (take-append-drop (length B - from) (drop from B)) ∙ take-append-drop from B)) same (rw l (omega
+    arith)) (behind (32768 - from) few))
 
 pub bytes-kept :
     (image B out′ : List ℕ) (s : State) (at end : ℕ) → Sized s at → at ≤ end → end ≤ length image → length image ≤ 65536 → 32768 ≤ length B
@@ -283,7 +393,8 @@ fine-as s m n r e h = rw (← e) h
 
 pub fine-here :
     (image B out post : List ℕ) (s : State) (at end n tag : ℕ) (r : Record) → s .bytes ≤ length B → n ≤ length out
-    → says r (take (s .bytes + n - s .bytes) (drop (s .bytes) (take (s .bytes) B ++ (out ++ post)))) ≡ recordOf (seenOf s) tag (take (s .bytes + n - s .bytes) (drop (s .bytes) (take (s .bytes) B ++ (out ++ post))))
+    → says r (take (s .bytes + n - s .bytes) (drop (s .bytes) (take (s .bytes) B ++ (out ++ post)))) ≡ recordOf (seenOf s) tag (take (s .bytes + n - s .bytes)
+    (drop (s .bytes) (take (s .bytes) B ++ (out ++ post))))
     → line tag (take n out) ≡ lineOf (take (end - at) (drop at image)) → Fine s n r
 fine-here image B out post s at end n tag r small room item good =
     fine-as s (length (take n out)) n r (length-take-le n out room)
@@ -294,7 +405,8 @@ module _
     (image B out post e k p t e′ k′ p′ t′ : List ℕ) (s s2 : State) (at end n tag ln : ℕ) (r : Record) (u : Turn)
     (small : s .bytes ≤ length B) (room : n ≤ length out)
     (order : at ≤ end) (h : end < length image)
-    (item : says r (take (s .bytes + n - s .bytes) (drop (s .bytes) (take (s .bytes) B ++ (out ++ post)))) ≡ recordOf (seenOf s) tag (take (s .bytes + n - s .bytes) (drop (s .bytes) (take (s .bytes) B ++ (out ++ post)))))
+    (item : says r (take (s .bytes + n - s .bytes) (drop (s .bytes) (take (s .bytes) B ++ (out ++ post)))) ≡ recordOf (seenOf s) tag (take (s .bytes +
+    n - s .bytes) (drop (s .bytes) (take (s .bytes) B ++ (out ++ post)))))
     (took : Accepted s r n e k p t s2 e′ k′ p′ t′)
     (res : u ≡ finishOf r s2 (end + 1) (length image - (end + 1)) (ln + 1))
     (free : (j : ℕ) → at ≤ j → j < end → getD image j 0 ≡ 10 → ⊥) (feed : getD image end 0 ≡ 10)
@@ -359,7 +471,15 @@ reading-start image m h r =
     record {
       here = rw (le-leb (length image) 65536 h);
       roomy = r;
-      sized = record { few-bytes = omega arith; few-constants = omega arith; few-texts = omega arith; few-chunks = omega arith; as-rows = refl; short-code = omega arith; few-own = omega arith };
+      sized = record {
+        few-bytes = omega arith;
+        few-constants = omega arith;
+        few-texts = omega arith;
+        few-chunks = omega arith;
+        as-rows = refl;
+        short-code = omega arith;
+        few-own = omega arith;
+      };
       within = omega arith;
       counted = omega arith;
       behind = behind-same 32768 0 0 0 m;
@@ -375,7 +495,13 @@ pub record SameLengths (m m′ : Slices) : Type 0 where
 
 roomy-kept : (m m′ : Slices) → SameLengths m m′ → Roomy m → Roomy m′
 roomy-kept m m′ l r =
-    record { room-bytes = rw (l .long-bytes) (r .room-bytes); room-ends = rw (l .long-ends) (r .room-ends); room-kinds = rw (l .long-kinds) (r .room-kinds); room-payloads = rw (l .long-payloads) (r .room-payloads); room-table = rw (l .long-table) (r .room-table) }
+    record {
+      room-bytes = rw (l .long-bytes) (r .room-bytes);
+      room-ends = rw (l .long-ends) (r .room-ends);
+      room-kinds = rw (l .long-kinds) (r .room-kinds);
+      room-payloads = rw (l .long-payloads) (r .room-payloads);
+      room-table = rw (l .long-table) (r .room-table);
+    }
 
 module _
     (image : List ℕ) (m₀ m m′ : Slices) (s : State) (at k : ℕ) (u : Turn)
@@ -420,7 +546,8 @@ no-lines : (image : List ℕ) (p : Parts) (at k : ℕ) → length image ≤ at �
 unfolding go split
 no-lines image p at k h = rw (drop-of-length-le image h)
 
-pub reading-end : (image : List ℕ) (m₀ m : Slices) (s : State) (at k : ℕ) → Reading image m₀ m s at k → length image ≤ at → length image ≤ 65536 → LoadsLines image m₀ (Refused NoEnd 0) m
+pub reading-end : (image : List ℕ) (m₀ m : Slices) (s : State) (at k : ℕ) → Reading image m₀ m s at k → length image ≤ at → length image ≤ 65536 →
+    LoadsLines image m₀ (Refused NoEnd 0) m
 reading-end image m₀ m s at k was h g =
     let n : at ≤ 65536 = omega (arith, was .within) in
     record {
@@ -442,7 +569,13 @@ loads-short image m e =
 
 pub not-short : (m : Slices) → Roomy m → short m ≡ false
 not-short m r =
-    rw (le-ltb (length (m .bytes)) 32768 (r .room-bytes), le-ltb (length (m .ends)) 256 (r .room-ends), le-ltb (length (m .kinds)) 13107 (r .room-kinds), le-ltb (length (m .payloads)) 13107 (r .room-payloads), le-ltb (length (m .table)) 260 (r .room-table))
+    rw (
+      le-ltb (length (m .bytes)) 32768 (r .room-bytes),
+      le-ltb (length (m .ends)) 256 (r .room-ends),
+      le-ltb (length (m .kinds)) 13107 (r .room-kinds),
+      le-ltb (length (m .payloads)) 13107 (r .room-payloads),
+      le-ltb (length (m .table)) 260 (r .room-table),
+    )
 
 short-or : (a b : Bool) → b ≡ true → (a || b) ≡ true
 short-or true b e = refl

@@ -56,7 +56,8 @@ module _ (l q : List ℕ) (p : ℕ) (inv : bytesOf l ≡ prepend q (bytesOf (dro
       none-second a none = refl
       none-second a (some b) = either (ltb a 16) ((a * 16 + 16) ∷ b)
 
-  pub decode-more : p + 1 < length l → (a b : ℕ) → a ≡ digit (getD l p 0) → b ≡ digit (getD l (p + 1) 0) → a < 16 → b < 16 → bytesOf l ≡ prepend (q ++ ((a * 16 + b) ∷ [])) (bytesOf (drop (p + 2) l))
+  pub decode-more : p + 1 < length l → (a b : ℕ) → a ≡ digit (getD l p 0) → b ≡ digit (getD l (p + 1) 0) → a < 16 → b < 16 → bytesOf l ≡ prepend (q ++
+      ((a * 16 + b) ∷ [])) (bytesOf (drop (p + 2) l))
   decode-more h a b ea eb la lb =
       inv ∙ rw (bytes-two l p h, ← ea, ← eb) (both (bytesOf (drop (p + 2) l)))
     where
@@ -108,7 +109,8 @@ module _ (l q : List ℕ) (p : ℕ) (inv : decoded l ≡ q ++ decoded (drop p l)
       none true b = rw append-nil
       none false b = rw append-nil
 
-  pub decodes-more : p + 1 < length l → (a b : ℕ) → a ≡ digit (getD l p 0) → b ≡ digit (getD l (p + 1) 0) → a < 16 → b < 16 → decoded l ≡ (q ++ ((a * 16 + b) ∷ [])) ++ decoded (drop (p + 2) l)
+  pub decodes-more : p + 1 < length l → (a b : ℕ) → a ≡ digit (getD l p 0) → b ≡ digit (getD l (p + 1) 0) → a < 16 → b < 16 → decoded l ≡ (q ++ ((a *
+      16 + b) ∷ [])) ++ decoded (drop (p + 2) l)
   decodes-more h a b ea eb la lb =
       inv ∙ rw (decoded-two l p h, ← ea, ← eb, lt-ltb a 16 la, lt-ltb b 16 lb, append-assoc)
 
@@ -211,10 +213,14 @@ split-open [] f = refl
 split-open (x ∷ xs) f = rw (ne-eqb x 10 (f 0 (omega arith)), split-open xs (tail-free x xs f))
 
 module _ (l : List ℕ) (from to : ℕ) (order : from ≤ to) (free : (k : ℕ) → from ≤ k → k < to → getD l k 0 ≡ 10 → ⊥) where
-  pub line-here : to < length l → getD l to 0 ≡ 10 → split (drop from l) ≡ record { lines = take (to - from) (drop from l) ∷ split (drop (to + 1) l) .lines; left = split (drop (to + 1) l) .left }
+  pub line-here : to < length l → getD l to 0 ≡ 10 → split (drop from l) ≡ record {
+    lines = take (to - from) (drop from l) ∷ split (drop (to + 1) l) .lines;
+    left = split (drop (to + 1) l) .left;
+  }
   line-here h e =
       ap split (split-at (drop from l) (to - from) 0 (rw length-drop (omega arith)) ∙ rw (getD-drop, drop-drop, there, e, after))
-      ∙ split-ended (take (to - from) (drop from l)) (drop (to + 1) l) (λ i g. rw (getD-take (to - from) (drop from l) i 0 (short i g), getD-drop) (free (from + i) (omega arith) (omega (arith, short i g))))
+      ∙ split-ended (take (to - from) (drop from l)) (drop (to + 1) l) (λ i g. rw (getD-take (to - from) (drop from l) i 0 (short i g), getD-drop)
+      (free (from + i) (omega arith) (omega (arith, short i g))))
     where
       there : from + (to - from) ≡ to
       there = omega arith

@@ -7,7 +7,58 @@ use native.Mathlib.Omega.{arith}
 use lib.ListN.{length, getD, drop}
 use lib.Dec.{ltb, leb, eqb}
 use Rattle.definition.specs.Image.{Image}
-use Rattle.definition.specs.Lines.{Load, image, refused, isEmpty, split, Line, line, faulty, lineOf, Part, inTexts, inConstants, addText, addChunk, addConstant, addCode, partAfterCode, Seen, Record, text, opens, constant, code, ends, fault, judged, numberFrom, printable, takesText, textOf, chunkRuled, chunkOf, takesConstant, constantRuled, constantOf, takesCode, codeRuled, codeLine, codeOf, endOf, recordOf, allNamed, constantsOf, ending, follow, onLine, seen, reads, blank, loadImage}
+use Rattle.definition.specs.Lines.{
+  Load,
+  image,
+  refused,
+  isEmpty,
+  split,
+  Line,
+  line,
+  faulty,
+  lineOf,
+  Part,
+  inTexts,
+  inConstants,
+  addText,
+  addChunk,
+  addConstant,
+  addCode,
+  partAfterCode,
+  Seen,
+  Record,
+  text,
+  opens,
+  constant,
+  code,
+  ends,
+  fault,
+  judged,
+  numberFrom,
+  printable,
+  takesText,
+  textOf,
+  chunkRuled,
+  chunkOf,
+  takesConstant,
+  constantRuled,
+  constantOf,
+  takesCode,
+  codeRuled,
+  codeLine,
+  codeOf,
+  endOf,
+  recordOf,
+  allNamed,
+  constantsOf,
+  ending,
+  follow,
+  onLine,
+  seen,
+  reads,
+  blank,
+  loadImage,
+}
 use Rattle.definition.proofs.Judged.{cond-elim}
 use Rattle.image.specs.Answer.{numberOf, refuses}
 use Rattle.image_records.specs.declared.Reason.{Reason}
@@ -66,7 +117,8 @@ low-end im last =
     (λ _. cond-elim LowLoad (allNamed (length (im .chunks)) (constantsOf (im .chunks))) (λ _. tt) (λ _. omega arith))
     (λ _. omega arith)
 
-low-follow : (im : Image) (k : ℕ) (last : Bool) (rest : Part → Image → Load) → ((p : Part) (i : Image) → LowLoad (rest p i)) → (r : Record) → LowFault r → LowLoad (follow im k last rest r)
+low-follow : (im : Image) (k : ℕ) (last : Bool) (rest : Part → Image → Load) → ((p : Part) (i : Image) → LowLoad (rest p i)) → (r : Record) → LowFault
+    r → LowLoad (follow im k last rest r)
 low-follow im k last rest f (text b) h = f inTexts (addText im b)
 low-follow im k last rest f (opens a n) h = f inConstants (addChunk im a n)
 low-follow im k last rest f (constant d v) h = f inConstants (addConstant im d v)
@@ -74,7 +126,8 @@ low-follow im k last rest f (code b) h = f (partAfterCode b) (addCode im b)
 low-follow im k last rest f ends h = low-end im last
 low-follow im k last rest f (fault n) h = h
 
-low-line : (p : Part) (im : Image) (k : ℕ) (last : Bool) (rest : Part → Image → Load) → ((p : Part) (i : Image) → LowLoad (rest p i)) → (x : Line) → LowLoad (onLine p im k last rest x)
+low-line : (p : Part) (im : Image) (k : ℕ) (last : Bool) (rest : Part → Image → Load) → ((p : Part) (i : Image) → LowLoad (rest p i)) → (x : Line) →
+    LowLoad (onLine p im k last rest x)
 low-line p im k last rest f faulty = omega arith
 low-line p im k last rest f (line t b) = low-follow im k last rest f (recordOf (seen p im) t b) (low-record (seen p im) t b)
 

@@ -59,7 +59,8 @@ down H zero x a b =
 down H (suc n) (pos m) a b =
     lt-ltb _ _ (sub-ind m (suc n) (λ (z : ℤ). mag z < H) (λ (l : m < suc n). omega arith) (λ (l : suc n ≤ m). omega arith))
     ∙ sym (sub-ind (suc n) H (λ (z : ℤ). leZ z (pos m) ≡ true) (λ l. refl) (λ (l : H ≤ suc n). le-leb (suc n - H) m (omega arith)))
-down H (suc n) (negsuc m) a b = sym (sub-ind (suc n) H (λ (z : ℤ). leZ z (negsuc m) ≡ ltb (suc (m + n)) H) (λ (l : suc n < H). less l) (λ (l : H ≤ suc n). sym (le-ltb (suc (m + n)) H (omega arith))))
+down H (suc n) (negsuc m) a b = sym (sub-ind (suc n) H (λ (z : ℤ). leZ z (negsuc m) ≡ ltb (suc (m + n)) H) (λ (l : suc n < H). less l) (λ (l : H ≤ suc
+    n). sym (le-ltb (suc (m + n)) H (omega arith))))
   where
     less : suc n < H → leb m (H - suc (suc n)) ≡ ltb (suc (m + n)) H
     less l = go (leb m (H - suc (suc n))) (leb→le m (H - suc (suc n))) (nleb→lt m (H - suc (suc n)))
@@ -116,7 +117,8 @@ le-of n h = omega arith
 
 module _ (x y zx zy : ℤ) (p : zx ≡ x) (q : zy ≡ y) (f : SFits w64 x) (g : SFits w64 y) where
   pub sum-up : leZ (pos 0) zy ≡ true → Tested (pos (2 ^ 63 - 1) -ℤ zy) (leZ zx (toZ w64 (ofZ w64 (pos (2 ^ 63 - 1) -ℤ zy)))) (x +ℤ y) (zx +ℤ zy)
-  sum-up t = moved (λ (a b : ℤ). Tested (pos (2 ^ 63 - 1) -ℤ b) (leZ a (toZ w64 (ofZ w64 (pos (2 ^ 63 - 1) -ℤ b)))) (x +ℤ y) (a +ℤ b)) p q (at y g (subst (λ (b : ℤ). leZ (pos 0) b ≡ true) q t))
+  sum-up t = moved (λ (a b : ℤ). Tested (pos (2 ^ 63 - 1) -ℤ b) (leZ a (toZ w64 (ofZ w64 (pos (2 ^ 63 - 1) -ℤ b)))) (x +ℤ y) (a +ℤ b)) p q (at y g
+      (subst (λ (b : ℤ). leZ (pos 0) b ≡ true) q t))
     where
       at : (y : ℤ) → SFits w64 y → leZ (pos 0) y ≡ true → Tested (pos (2 ^ 63 - 1) -ℤ y) (leZ x (toZ w64 (ofZ w64 (pos (2 ^ 63 - 1) -ℤ y)))) (x +ℤ y) (x +ℤ y)
       at (negsuc n) g t = no t
@@ -127,21 +129,24 @@ module _ (x y zx zy : ℤ) (p : zx ≡ x) (q : zy ≡ y) (f : SFits w64 x) (g : 
           edge (suc n) = refl
 
   pub sum-down : leZ (pos 0) zy ≡ false → Tested (negsuc (2 ^ 63 - 1) -ℤ zy) (leZ (toZ w64 (ofZ w64 (negsuc (2 ^ 63 - 1) -ℤ zy))) zx) (x +ℤ y) (zx +ℤ zy)
-  sum-down t = moved (λ (a b : ℤ). Tested (negsuc (2 ^ 63 - 1) -ℤ b) (leZ (toZ w64 (ofZ w64 (negsuc (2 ^ 63 - 1) -ℤ b))) a) (x +ℤ y) (a +ℤ b)) p q (at y g (subst (λ (b : ℤ). leZ (pos 0) b ≡ false) q t))
+  sum-down t = moved (λ (a b : ℤ). Tested (negsuc (2 ^ 63 - 1) -ℤ b) (leZ (toZ w64 (ofZ w64 (negsuc (2 ^ 63 - 1) -ℤ b))) a) (x +ℤ y) (a +ℤ b)) p q (at
+      y g (subst (λ (b : ℤ). leZ (pos 0) b ≡ false) q t))
     where
       at : (y : ℤ) → SFits w64 y → leZ (pos 0) y ≡ false → Tested (negsuc (2 ^ 63 - 1) -ℤ y) (leZ (toZ w64 (ofZ w64 (negsuc (2 ^ 63 - 1) -ℤ y))) x) (x +ℤ y) (x +ℤ y)
       at (pos n) g t = no (sym t ∙ leb·zero n)
       at (negsuc n) g t = down-64 (suc n) x (negsuc (2 ^ 63 - 1) -ℤ negsuc n) (g .sfits) f refl
 
   pub difference-down : leZ (pos 0) zy ≡ true → Tested (negsuc (2 ^ 63 - 1) +ℤ zy) (leZ (toZ w64 (ofZ w64 (negsuc (2 ^ 63 - 1) +ℤ zy))) zx) (x -ℤ y) (zx -ℤ zy)
-  difference-down t = moved (λ (a b : ℤ). Tested (negsuc (2 ^ 63 - 1) +ℤ b) (leZ (toZ w64 (ofZ w64 (negsuc (2 ^ 63 - 1) +ℤ b))) a) (x -ℤ y) (a -ℤ b)) p q (at y g (subst (λ (b : ℤ). leZ (pos 0) b ≡ true) q t))
+  difference-down t = moved (λ (a b : ℤ). Tested (negsuc (2 ^ 63 - 1) +ℤ b) (leZ (toZ w64 (ofZ w64 (negsuc (2 ^ 63 - 1) +ℤ b))) a) (x -ℤ y) (a -ℤ b))
+      p q (at y g (subst (λ (b : ℤ). leZ (pos 0) b ≡ true) q t))
     where
       at : (y : ℤ) → SFits w64 y → leZ (pos 0) y ≡ true → Tested (negsuc (2 ^ 63 - 1) +ℤ y) (leZ (toZ w64 (ofZ w64 (negsuc (2 ^ 63 - 1) +ℤ y))) x) (x -ℤ y) (x -ℤ y)
       at (negsuc n) g t = no t
       at (pos n) g t = down-64 n x (negsuc (2 ^ 63 - 1) +ℤ pos n) (le-of n (g .sfits)) f refl
 
   pub difference-up : leZ (pos 0) zy ≡ false → Tested (pos (2 ^ 63 - 1) +ℤ zy) (leZ zx (toZ w64 (ofZ w64 (pos (2 ^ 63 - 1) +ℤ zy)))) (x -ℤ y) (zx -ℤ zy)
-  difference-up t = moved (λ (a b : ℤ). Tested (pos (2 ^ 63 - 1) +ℤ b) (leZ a (toZ w64 (ofZ w64 (pos (2 ^ 63 - 1) +ℤ b)))) (x -ℤ y) (a -ℤ b)) p q (at y g (subst (λ (b : ℤ). leZ (pos 0) b ≡ false) q t))
+  difference-up t = moved (λ (a b : ℤ). Tested (pos (2 ^ 63 - 1) +ℤ b) (leZ a (toZ w64 (ofZ w64 (pos (2 ^ 63 - 1) +ℤ b)))) (x -ℤ y) (a -ℤ b)) p q (at
+      y g (subst (λ (b : ℤ). leZ (pos 0) b ≡ false) q t))
     where
       at : (y : ℤ) → SFits w64 y → leZ (pos 0) y ≡ false → Tested (pos (2 ^ 63 - 1) +ℤ y) (leZ x (toZ w64 (ofZ w64 (pos (2 ^ 63 - 1) +ℤ y)))) (x -ℤ y) (x -ℤ y)
       at (pos n) g t = no (sym t ∙ leb·zero n)

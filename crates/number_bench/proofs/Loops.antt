@@ -39,12 +39,14 @@ unfolding turns
 next-turn f i x y z t e g = ap (λ (n : ℕ). turns f n x) (add-one i) ∙ ap (onto f) t ∙ sym e ∙ g
 
 -- all turns were made
-pub all-turns : (f : Number → Number → NumberAnswer) (n i : ℕ) (x y x′ y′ z : Number) {left : ℕ} → x ≡ x′ → y ≡ y′ → i ≡ n → turns (λ a. f a y) i x ≡ Value z → left ≡ payloadOf z → Ends (λ a. f a y′) n x′ i left
+pub all-turns : (f : Number → Number → NumberAnswer) (n i : ℕ) (x y x′ y′ z : Number) {left : ℕ} → x ≡ x′ → y ≡ y′ → i ≡ n → turns (λ a. f a y) i x ≡
+    Value z → left ≡ payloadOf z → Ends (λ a. f a y′) n x′ i left
 all-turns f n i x y x′ y′ z {left} p q k t l =
     record {
       all = k;
       number = z;
-      turned = subst (λ (b : Number). turns (λ a. f a b) n x′ ≡ Value z) q (subst (λ (a : Number). turns (λ w. f w y) n a ≡ Value z) p (subst (λ (m : ℕ). turns (λ w. f w y) m x ≡ Value z) k t));
+      turned = subst (λ (b : Number). turns (λ a. f a b) n x′ ≡ Value z) q (subst (λ (a : Number). turns (λ w. f w y) n a ≡ Value z) p (subst (λ (m :
+          ℕ). turns (λ w. f w y) m x ≡ Value z) k t));
       payload = l;
     }
 
@@ -53,7 +55,8 @@ pub other-tag : (t : ℕ) → OneOf (1 ∷ 2 ∷ 3 ∷ 4 ∷ []) t → t ≡ 0 �
 other-tag t k z = ⊎-elim (λ e. omega arith) (⊎-elim (λ e. omega arith) (⊎-elim (λ e. omega arith) (λ e. omega arith))) k
 
 -- a turn answered a fault
-pub faulted : (f : Number → Number → NumberAnswer) (n i : ℕ) (x y x′ y′ z : Number) {r : NumberAnswer} {lent : ℕ} → x ≡ x′ → y ≡ y′ → i < n → turns (λ a. f a y) i x ≡ Value z → r ≡ f z y → ((v : Number) → r ≡ Value v → ⊥) → Stops (λ a. f a y′) n x′ i lent lent
+pub faulted : (f : Number → Number → NumberAnswer) (n i : ℕ) (x y x′ y′ z : Number) {r : NumberAnswer} {lent : ℕ} → x ≡ x′ → y ≡ y′ → i < n → turns (λ
+    a. f a y) i x ≡ Value z → r ≡ f z y → ((v : Number) → r ≡ Value v → ⊥) → Stops (λ a. f a y′) n x′ i lent lent
 faulted f n i x y x′ y′ z p q k t e none =
     record {
       early = k;
@@ -72,7 +75,8 @@ pub next-step : {A : Type 0} (f : A → A) (i : ℕ) (a b c : A) → steps f i a
 unfolding steps
 next-step f i a b c s e = ap (λ (n : ℕ). steps f n a) (add-one i) ∙ ap f s ∙ e
 
-pub counted : (kind : ℕ) (bound : Number) (a : ℕ) {x : Number} {r : ComparisonAnswer} {p a′ : ℕ} → x ≡ numberAt kind a → r ≡ lessOf x bound → p ≡ paceOf r → a′ ≡ (a + p) % 2 ^ 64 → countOn kind bound a ≡ a′
+pub counted : (kind : ℕ) (bound : Number) (a : ℕ) {x : Number} {r : ComparisonAnswer} {p a′ : ℕ} → x ≡ numberAt kind a → r ≡ lessOf x bound → p ≡
+    paceOf r → a′ ≡ (a + p) % 2 ^ 64 → countOn kind bound a ≡ a′
 counted kind bound a e f g h = sym (h ∙ ap (λ (q : ℕ). (a + q) % 2 ^ 64) (g ∙ ap paceOf (f ∙ ap (λ (y : Number). lessOf y bound) e)))
 
 pub gone-and-back : (x : Number) {y z : Number} {r s : NumberAnswer} → r ≡ castOf ToFloat x → y ≡ valueOr r x → s ≡ castOf (ToInteger I64) y → z ≡ valueOr s y → thereAndBack x ≡ z

@@ -59,7 +59,8 @@ view-of : (n : ℕ) → View (wholePartOf n) n
 unfolding wholePartOf
 view-of n = go (ltb n (2 ^ 64)) (ltb n (2 ^ 127)) (ltb→lt n (2 ^ 64)) (nltb→le n (2 ^ 64)) (ltb→lt n (2 ^ 127)) (nltb→le n (2 ^ 127))
   where
-    go : (a b : Bool) → (T a → n < 2 ^ 64) → (T (not a) → 2 ^ 64 ≤ n) → (T b → n < 2 ^ 127) → (T (not b) → 2 ^ 127 ≤ n) → View (pickWhole a (Below64 n) (pickWhole b (Below127 (n % 2 ^ 64)) Beyond)) n
+    go : (a b : Bool) → (T a → n < 2 ^ 64) → (T (not a) → 2 ^ 64 ≤ n) → (T b → n < 2 ^ 127) → (T (not b) → 2 ^ 127 ≤ n) → View (pickWhole a (Below64
+        n) (pickWhole b (Below127 (n % 2 ^ 64)) Beyond)) n
     go true b x y z w = (refl, x tt)
     go false true x y z w = (refl, y tt, z tt)
     go false false x y z w = w tt
@@ -210,5 +211,6 @@ cast-scalar t a s e = ap (λ (y : Scalar). pick (castable y) (castTo t (truncate
 pub cast-uint : (t : CastTarget) (k : IntKind) (z : ℤ) {m : ℕ} → m ≡ intKindCode k → m ≡ 2 → InvalidCast ≡ pick (castable (integer k z)) (castTo t z (ofInt binary64 z)) InvalidCast
 cast-uint t k z e h = sym (ap (λ (b : Bool). pick (not b) (castTo t z (ofInt binary64 z)) InvalidCast) (eq-eqb (intKindCode k) 2 (sym e ∙ h)))
 
-pub cast-castable : (t : CastTarget) (k : IntKind) (z : ℤ) {m : ℕ} → m ≡ intKindCode k → (m ≡ 2 → ⊥) → castTo t z (ofInt binary64 z) ≡ pick (castable (integer k z)) (castTo t z (ofInt binary64 z)) InvalidCast
+pub cast-castable : (t : CastTarget) (k : IntKind) (z : ℤ) {m : ℕ} → m ≡ intKindCode k → (m ≡ 2 → ⊥) → castTo t z (ofInt binary64 z) ≡ pick (castable
+    (integer k z)) (castTo t z (ofInt binary64 z)) InvalidCast
 cast-castable t k z e h = sym (ap (λ (b : Bool). pick (not b) (castTo t z (ofInt binary64 z)) InvalidCast) (ne-eqb (intKindCode k) 2 (λ q. h (e ∙ q))))

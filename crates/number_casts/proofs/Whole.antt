@@ -3,7 +3,24 @@ use mathlib.Core.Path.{_≡_, refl, sym, ap, _∙_, subst}
 use mathlib.Core.Bool.{Bool, true, false, not, cond}
 use Prim.Native.Nat.{ℕ, zero, suc, _+_, _-_, _*_, _/_, _%_, _^_, _<_, _≤_, min}
 use native.Mathlib.Omega.{arith}
-use native.Mathlib.Nat.{le-of-lt, div-le-self, lt-of-le-of-lt, mul-assoc, mul-div-cancel, div-eq-of-lt, mod-eq-of-lt, lt-of-lt-of-le, le-trans, le-of-eq, mul-le-mul, mul-le-mul-right, mul-le-mul-left, mul-mod-left, le-add-right, mul-one}
+use native.Mathlib.Nat.{
+  le-of-lt,
+  div-le-self,
+  lt-of-le-of-lt,
+  mul-assoc,
+  mul-div-cancel,
+  div-eq-of-lt,
+  mod-eq-of-lt,
+  lt-of-lt-of-le,
+  le-trans,
+  le-of-eq,
+  mul-le-mul,
+  mul-le-mul-right,
+  mul-le-mul-left,
+  mul-mod-left,
+  le-add-right,
+  mul-one,
+}
 use lib.Dec.{T, leb, ltb, eqb, ltb→lt, nltb→le, lit≤, lit<}
 use lib.Pow.{pow-add, pow-pos, pow-mono, shl-lt, shr-lt}
 use lib.IntN.{ℤ, pos, negsuc, negℤ, natAbs}
@@ -87,7 +104,8 @@ module _ (d : ℕ) (D : d < 2 ^ 52) where
   at-big (suc x) p h =
       let e1 : x ≡ suc x - 1075 + 1074 = omega arith in
       let is : (2 ^ 52 + d) * 2 ^ x / 2 ^ 1074 ≡ (2 ^ 52 + d) * 2 ^ (suc x - 1075) =
-      ap (λ (y : ℕ). y / 2 ^ 1074) (ap (λ (y : ℕ). (2 ^ 52 + d) * 2 ^ y) e1 ∙ ap (λ (y : ℕ). (2 ^ 52 + d) * y) (pow-add 2 (suc x - 1075) 1074) ∙ sym (mul-assoc (2 ^ 52 + d) (2 ^ (suc x - 1075)) (2 ^ 1074)))
+      ap (λ (y : ℕ). y / 2 ^ 1074) (ap (λ (y : ℕ). (2 ^ 52 + d) * 2 ^ y) e1 ∙ ap (λ (y : ℕ). (2 ^ 52 + d) * y) (pow-add 2 (suc x - 1075) 1074) ∙ sym
+      (mul-assoc (2 ^ 52 + d) (2 ^ (suc x - 1075)) (2 ^ 1074)))
       ∙ mul-div-cancel ((2 ^ 52 + d) * 2 ^ (suc x - 1075)) (pow-pos 1074) in
       ap (toUnsigned 128) (fields-suc false x d h) ∙ odd-unsigned (2 ^ 52 + d) x ∙ ap (λ (y : ℕ). min y (2 ^ 128 - 1)) is
 
@@ -163,7 +181,8 @@ module _ (m : ℕ) (fit : m < 2 ^ 63) where
   whole-shr l h =
       let p : 0 < m / 2 ^ 52 = omega arith in
       let b : 2 ^ 52 + m % 2 ^ 52 < 2 ^ 64 = omega arith in
-      whole-small _ ((2 ^ 52 + m % 2 ^ 52) / 2 ^ (1075 - m / 2 ^ 52)) (whole-mag m fit ∙ at-small (m % 2 ^ 52) D (m / 2 ^ 52) p h) (lt-of-le-of-lt (div-le-self (2 ^ 52 + m % 2 ^ 52) (2 ^ (1075 - m / 2 ^ 52))) b)
+      whole-small _ ((2 ^ 52 + m % 2 ^ 52) / 2 ^ (1075 - m / 2 ^ 52)) (whole-mag m fit ∙ at-small (m % 2 ^ 52) D (m / 2 ^ 52) p h) (lt-of-le-of-lt
+      (div-le-self (2 ^ 52 + m % 2 ^ 52) (2 ^ (1075 - m / 2 ^ 52))) b)
 
   -- put on k zeros, at most 74
   big-is : 1075 ≤ m / 2 ^ 52 → m / 2 ^ 52 - 1075 ≤ 74 → toUnsigned 128 (ofBits binary64 m) ≡ (2 ^ 52 + m % 2 ^ 52) * 2 ^ (m / 2 ^ 52 - 1075)
@@ -180,7 +199,8 @@ module _ (m : ℕ) (fit : m < 2 ^ 63) where
       let e : (2 ^ 52 + m % 2 ^ 52) * 2 ^ (m / 2 ^ 52 - 1075) % 2 ^ 64 ≡ (2 ^ 52 + m % 2 ^ 52) * 2 ^ (m / 2 ^ 52 - 1075) = mod-eq-of-lt b in
       whole-small _ _ (big-is l' h' ∙ sym e) (subst (λ (x : ℕ). x < 2 ^ 64) (sym e) b)
 
-  pub whole-low : 1075 < m / 2 ^ 52 → 12 ≤ m / 2 ^ 52 - 1075 → m / 2 ^ 52 - 1075 < 75 → (r : ℕ) → (2 ^ 52 + m % 2 ^ 52) * 2 ^ (m / 2 ^ 52 - 1075) % 2 ^ 64 ≡ r → Below127 r ≡ wholePartOf (toUnsigned 128 (ofBits binary64 m))
+  pub whole-low : 1075 < m / 2 ^ 52 → 12 ≤ m / 2 ^ 52 - 1075 → m / 2 ^ 52 - 1075 < 75 → (r : ℕ) → (2 ^ 52 + m % 2 ^ 52) * 2 ^ (m / 2 ^ 52 - 1075) % 2
+      ^ 64 ≡ r → Below127 r ≡ wholePartOf (toUnsigned 128 (ofBits binary64 m))
   whole-low l a h r e =
       let l' : 1075 ≤ m / 2 ^ 52 = omega arith in
       let h' : m / 2 ^ 52 - 1075 ≤ 74 = omega arith in
@@ -190,7 +210,8 @@ module _ (m : ℕ) (fit : m < 2 ^ 63) where
   no-low h =
       let k = m / 2 ^ 52 - 1075 in
       let e : m / 2 ^ 52 - 1075 ≡ m / 2 ^ 52 - 1075 - 64 + 64 = omega arith in
-      ap (λ (x : ℕ). x % 2 ^ 64) (ap (λ (y : ℕ). (2 ^ 52 + m % 2 ^ 52) * 2 ^ y) e ∙ ap (λ (y : ℕ). (2 ^ 52 + m % 2 ^ 52) * y) (pow-add 2 (k - 64) 64) ∙ sym (mul-assoc (2 ^ 52 + m % 2 ^ 52) (2 ^ (k - 64)) (2 ^ 64)))
+      ap (λ (x : ℕ). x % 2 ^ 64) (ap (λ (y : ℕ). (2 ^ 52 + m % 2 ^ 52) * 2 ^ y) e ∙ ap (λ (y : ℕ). (2 ^ 52 + m % 2 ^ 52) * y) (pow-add 2 (k - 64) 64)
+      ∙ sym (mul-assoc (2 ^ 52 + m % 2 ^ 52) (2 ^ (k - 64)) (2 ^ 64)))
       ∙ mul-mod-left ((2 ^ 52 + m % 2 ^ 52) * 2 ^ (k - 64)) (2 ^ 64)
 
   le-min : (a b c : ℕ) → c ≤ a → c ≤ b → c ≤ min a b
@@ -202,7 +223,8 @@ module _ (m : ℕ) (fit : m < 2 ^ 63) where
       go : (b : Bool) → (T b → m / 2 ^ 52 < 2047) → (T (not b) → 2047 ≤ m / 2 ^ 52) → Beyond ≡ wholePartOf (toUnsigned 128 (ofBits binary64 m))
       go true y n =
           let l' : 1075 ≤ m / 2 ^ 52 = omega arith in
-          whole-over _ _ (whole-mag m fit ∙ at-big (m % 2 ^ 52) D (m / 2 ^ 52) l' (y tt)) (le-min _ (2 ^ 128 - 1) (2 ^ 127) (big-lo (m % 2 ^ 52) D 75 (m / 2 ^ 52 - 1075) a) (lit≤ tt))
+          whole-over _ _ (whole-mag m fit ∙ at-big (m % 2 ^ 52) D (m / 2 ^ 52) l' (y tt)) (le-min _ (2 ^ 128 - 1) (2 ^ 127) (big-lo (m % 2 ^ 52) D 75
+          (m / 2 ^ 52 - 1075) a) (lit≤ tt))
       go false y n =
           let k = n tt in
           let x : m / 2 ^ 52 ≡ 2047 = omega arith in

@@ -27,7 +27,11 @@ use Rattle.number_words.specs.declared.NarrowKind.{NarrowKind}
 use Rattle.number_words.specs.Words.{numbersOf, narrowKinds, kindAmong, narrowKind, turn, signed, IsOf}
 
 -- ---- the kind of a code
-pub no-kind : {code : ℕ} → (code ≡ 3 → ⊥) → (code ≡ 4 → ⊥) → (code ≡ 10 → ⊥) → (code ≡ 11 → ⊥) → (code ≡ 12 → ⊥) → (code ≡ 13 → ⊥) → record { numbers = 0; negatives = 0 } ≡ narrowKind code
+pub no-kind : {code : ℕ} → (code ≡ 3 → ⊥) → (code ≡ 4 → ⊥) → (code ≡ 10 → ⊥) → (code ≡ 11 → ⊥) → (code ≡ 12 → ⊥) → (code ≡ 13 → ⊥) → record {
+  numbers
+      = 0;
+  negatives = 0;
+} ≡ narrowKind code
 unfolding narrowKind
 no-kind {code} a b c d e f = simp (ne-eqb code 3 a, ne-eqb code 4 b, ne-eqb code 10 c, ne-eqb code 11 d, ne-eqb code 12 e, ne-eqb code 13 f)
 
@@ -37,7 +41,8 @@ KindOf code n = (k : IntKind) × (intKindCode k ≡ code) × IsOf k n
 
 abbrev Narrow : List IntKind → Type 0
 Narrow [] = Unit {0}
-Narrow (k ∷ ks) = (((leastMagnitude k ≡ 0) ⊎ (leastMagnitude k + leastMagnitude k ≡ leastMagnitude k + suc (greatest k))) × (leastMagnitude k + suc (greatest k) ≤ 4294967296)) × Narrow ks
+Narrow (k ∷ ks) = (((leastMagnitude k ≡ 0) ⊎ (leastMagnitude k + leastMagnitude k ≡ leastMagnitude k + suc (greatest k))) × (leastMagnitude k + suc
+    (greatest k) ≤ 4294967296)) × Narrow ks
 
 among : (ks : List IntKind) (code : ℕ) → Narrow ks → 0 < kindAmong ks code .numbers → KindOf code (kindAmong ks code)
 among [] code n l = let z : ⊥ = omega arith in absurd z
@@ -50,7 +55,26 @@ among (k ∷ ks) code n l = go (among ks code (n .1)) (eqb code (intKindCode k))
 
 pub of-code : (code : ℕ) → 0 < narrowKind code .numbers → KindOf code (narrowKind code)
 unfolding narrowKind
-of-code code l = among narrowKinds code ((inr refl, omega arith), ((inl refl, omega arith), ((inl refl, omega arith), ((inr refl, omega arith), ((inl refl, omega arith), ((inr refl, omega arith), tt)))))) l
+of-code code l = among narrowKinds code (
+  (inr refl, omega arith),
+  (
+    (inl refl, omega arith),
+    (
+      (inl refl, omega arith),
+      (
+        (inr refl, omega arith),
+        (
+          (
+            inl
+                refl,
+            omega arith,
+          ),
+          ((inr refl, omega arith), tt),
+        ),
+      ),
+    ),
+  ),
+) l
 
 -- ---- the difference of two naturals
 sub-up : (a b c : ℕ) → a ≡ b + c → subℕ a b ≡ pos c
@@ -89,7 +113,8 @@ signed-value : (h p : ℕ) (n : NarrowKind) → n .negatives ≡ 2 ^ h → n .nu
 signed-value h p n e m l =
     let t : 2 ^ suc h ≡ 2 ^ h * 2 = pow-suc 2 h in
     let o : n .numbers - n .negatives ≡ 2 ^ h = omega arith in
-    ap (twosComplement h) (mod-eq-of-lt (omega arith)) ∙ go (ltb p (2 ^ h)) (ltb→lt p (2 ^ h)) (nltb→le p (2 ^ h)) ∙ sym (ap (λ (c : ℕ). subℕ (cond (ltb p c) (p + n .negatives) (p - c)) (n .negatives)) o)
+    ap (twosComplement h) (mod-eq-of-lt (omega arith)) ∙ go (ltb p (2 ^ h)) (ltb→lt p (2 ^ h)) (nltb→le p (2 ^ h)) ∙ sym (ap (λ (c : ℕ). subℕ (cond
+    (ltb p c) (p + n .negatives) (p - c)) (n .negatives)) o)
   where
     go : (t : Bool) → (T t → p < 2 ^ h) → (T (not t) → 2 ^ h ≤ p) → cond t (pos p) (negsuc (2 ^ suc h - suc p)) ≡ subℕ (cond t (p + n .negatives) (p - 2 ^ h)) (n .negatives)
     go true x y = sym (sub-up (p + n .negatives) (n .negatives) p (omega arith))
@@ -99,7 +124,8 @@ unsigned-value : (b p : ℕ) (n : NarrowKind) → n .negatives ≡ 0 → n .numb
 unsigned-value b p n e m l =
     let h : p < n .numbers - n .negatives = omega arith in
     ap pos (mod-eq-of-lt (omega arith))
-    ∙ sym (ap (λ (t : Bool). subℕ (cond t (p + n .negatives) (p - (n .numbers - n .negatives))) (n .negatives)) (lt-ltb p (n .numbers - n .negatives) h) ∙ sub-up (p + n .negatives) (n .negatives) p (omega arith))
+    ∙ sym (ap (λ (t : Bool). subℕ (cond t (p + n .negatives) (p - (n .numbers - n .negatives))) (n .negatives)) (lt-ltb p (n .numbers - n .negatives)
+    h) ∙ sub-up (p + n .negatives) (n .negatives) p (omega arith))
 
 pub value-at : (k : IntKind) (n : NarrowKind) (p : ℕ) → IsOf k n → p < n .numbers → wrapping k (pos p) ≡ subℕ (turn n p) (n .negatives)
 unfolding wrapping
@@ -148,14 +174,16 @@ module _ (k : IntKind) (n : NarrowKind) (i : IsOf k n) where
       down : n .numbers - n .negatives ≤ Z → turn n (Z - (n .numbers - n .negatives)) ≡ Z
       down g = ⊎-elim (λ e. let z : ⊥ = omega arith in absurd z) (λ e. this (Z - (n .numbers - n .negatives)) (omega arith) (omega arith)) (i .balanced)
 
-      go : (t : Bool) → (T t → Z < n .numbers - n .negatives) → (T (not t) → n .numbers - n .negatives ≤ Z) → turn n (cond t (Z + n .negatives) (Z - (n .numbers - n .negatives))) ≡ Z
+      go : (t : Bool) → (T t → Z < n .numbers - n .negatives) → (T (not t) → n .numbers - n .negatives ≤ Z) → turn n (cond t (Z + n .negatives) (Z -
+          (n .numbers - n .negatives))) ≡ Z
       go true x y = up (x tt)
       go false x y = down (y tt)
 
   pub turn-less : (p : ℕ) → p < n .numbers → turn n p < n .numbers
   turn-less p l = go (ltb p (n .numbers - n .negatives)) (ltb→lt p (n .numbers - n .negatives)) (nltb→le p (n .numbers - n .negatives))
     where
-      go : (t : Bool) → (T t → p < n .numbers - n .negatives) → (T (not t) → n .numbers - n .negatives ≤ p) → cond t (p + n .negatives) (p - (n .numbers - n .negatives)) < n .numbers
+      go : (t : Bool) → (T t → p < n .numbers - n .negatives) → (T (not t) → n .numbers - n .negatives ≤ p) → cond t (p + n .negatives) (p - (n .numbers
+          - n .negatives)) < n .numbers
       go true x y = let h = x tt in omega arith
       go false x y = let h = y tt in omega arith
 
@@ -163,7 +191,8 @@ module _ (k : IntKind) (n : NarrowKind) (i : IsOf k n) where
   pub at-place : (z : ℤ) (Z w : ℕ) → z ≡ subℕ Z (n .negatives) → Z < n .numbers → w ≡ turn n Z → Value (asKind k (wrapping k (pos w))) ≡ checked k z
   unfolding checked
   at-place z Z w e l h =
-      let v : wrapping k (pos w) ≡ z = ap (λ (x : ℕ). wrapping k (pos x)) h ∙ value-at k n (turn n Z) i (turn-less Z l) ∙ ap (λ (x : ℕ). subℕ x (n .negatives)) (turned-back Z l) ∙ sym e in
+      let v : wrapping k (pos w) ≡ z = ap (λ (x : ℕ). wrapping k (pos x)) h ∙ value-at k n (turn n Z) i (turn-less Z l) ∙ ap (λ (x : ℕ). subℕ x (n .negatives))
+      (turned-back Z l) ∙ sym e in
       let r : inRange k z ≡ true = ap (inRange k) e ∙ in-range Z l in
       ap (λ (x : ℤ). Value (asKind k x)) v ∙ sym (ap (λ (t : Bool). pick t (Value (asKind k z)) Overflow) r)
 
@@ -211,7 +240,8 @@ lt-places X Y b =
     (λ m. sym (le-ltb X Y (omega arith)))
     (λ m. same-test X Y (X - b) (Y - b) (λ h. omega arith) (λ h. omega arith)))
 
-pub less-is : (k : IntKind) (n : NarrowKind) (p q X Y : ℕ) → IsOf k n → p < n .numbers → q < n .numbers → X ≡ turn n p → Y ≡ turn n q → ltZ (wrapping k (pos p)) (wrapping k (pos q)) ≡ ltb X Y
+pub less-is : (k : IntKind) (n : NarrowKind) (p q X Y : ℕ) → IsOf k n → p < n .numbers → q < n .numbers → X ≡ turn n p → Y ≡ turn n q → ltZ (wrapping
+    k (pos p)) (wrapping k (pos q)) ≡ ltb X Y
 less-is k n p q X Y i lp lq ex ey =
     ap (λ (z : ℤ). ltZ z (wrapping k (pos q))) (first k n i p q X Y lp lq ex ey)
     ∙ ap (λ (z : ℤ). ltZ (subℕ X (n .negatives)) z) (second k n i p q X Y lp lq ex ey)

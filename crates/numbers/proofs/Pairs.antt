@@ -19,10 +19,12 @@ use Rattle.numbers.specs.Scalars.{Scalar, integer, integers, mixed, pick
 pub stands : (a : Number) (r : Operand) {x : Operand} → operandScalar r ≡ scalarOf a → r ≡ x → operandScalar x ≡ scalarOf a
 stands a r e k = ap operandScalar (sym k) ∙ e
 
-pub joined : (a b : Number) (ra rb : Operand) {x y : Operand} → operandScalar ra ≡ scalarOf a → operandScalar rb ≡ scalarOf b → ra ≡ x → rb ≡ y → sameKind (operandScalar x) (operandScalar y) ≡ sameKind (scalarOf a) (scalarOf b)
+pub joined : (a b : Number) (ra rb : Operand) {x y : Operand} → operandScalar ra ≡ scalarOf a → operandScalar rb ≡ scalarOf b → ra ≡ x → rb ≡ y →
+    sameKind (operandScalar x) (operandScalar y) ≡ sameKind (scalarOf a) (scalarOf b)
 joined a b ra rb {x = x} p q k l = ap (λ (s : Scalar). sameKind (operandScalar x) s) (stands b rb q l) ∙ ap (λ (s : Scalar). sameKind s (scalarOf b)) (stands a ra p k)
 
-pub same : (j k : IntKind) (p q : SignMagnitude) {m n : ℕ} → m ≡ intKindCode j → n ≡ intKindCode k → m ≡ n → integers j (valueOf p) (valueOf q) ≡ sameKind (integer j (valueOf p)) (integer k (valueOf q))
+pub same : (j k : IntKind) (p q : SignMagnitude) {m n : ℕ} → m ≡ intKindCode j → n ≡ intKindCode k → m ≡ n → integers j (valueOf p) (valueOf q) ≡
+    sameKind (integer j (valueOf p)) (integer k (valueOf q))
 same j k p q d e h = sym (ap (λ (b : Bool). pickPair b (integers j (valueOf p) (valueOf q)) mixed) (eq-eqb (intKindCode j) (intKindCode k) (sym d ∙ h ∙ e)))
 
 pub other : (j k : IntKind) (p q : SignMagnitude) {m n : ℕ} → m ≡ intKindCode j → n ≡ intKindCode k → (m ≡ n → ⊥) → mixed ≡ sameKind (integer j (valueOf p)) (integer k (valueOf q))

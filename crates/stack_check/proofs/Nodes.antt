@@ -131,7 +131,16 @@ node-is i f t x y z ef et ex ey ez p d e =
   where
     all :
         {n e d o s x y n′ e′ d′ o′ s′ x′ y′ : ℕ} {z z′ : ℤ} → n ≡ n′ → z ≡ z′ → e ≡ e′ → d ≡ d′ → o ≡ o′ → s ≡ s′ → x ≡ x′ → y ≡ y′
-        → _≡_ {A = Node} (record { need = n; change = z; exact = e; drops = d; opens = o; ends = s; first = x; second = y }) (record { need = n′; change = z′; exact = e′; drops = d′; opens = o′; ends = s′; first = x′; second = y′ })
+        → _≡_ {A = Node} (record { need = n; change = z; exact = e; drops = d; opens = o; ends = s; first = x; second = y }) (record {
+          need = n′;
+          change = z′;
+          exact = e′;
+          drops = d′;
+          opens = o′;
+          ends = s′;
+          first = x′;
+          second = y′;
+        })
     all a b c f g h k m = rw (a, b, c, f, g, h, k, m)
 
 -- the numbers of an instruction are small

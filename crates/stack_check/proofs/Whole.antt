@@ -39,7 +39,8 @@ module _ {bytes kinds table : List ℕ} {chunks : ℕ} where
       let j = L .2 .todo in
       (chunkAt im c, L .1 .held c m, record { heights = omega arith; depths = omega arith; todo = omega arith })
 
-  pub pass-next : (c : ℕ) (r : ChunkAnswer) → c < chunks → r ≡ one.Pass → RowDecided bytes kinds table c r → PassBelow bytes kinds table chunks c → PassBelow bytes kinds table chunks (c + 1)
+  pub pass-next : (c : ℕ) (r : ChunkAnswer) → c < chunks → r ≡ one.Pass → RowDecided bytes kinds table c r → PassBelow bytes kinds table chunks c →
+      PassBelow bytes kinds table chunks (c + 1)
   pass-next c r l e R P im H b m =
       ⊎-elim
       (λ x. P im H b x)

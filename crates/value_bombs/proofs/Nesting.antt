@@ -123,7 +123,8 @@ first-twins leaf last l m n ws a e f =
     let q : last ≡ m = cc in
     subst (λ (k : Number). Twins k m 0 n ws ws (Num leaf) (Num last) n) p (subst (λ (k : Number). Twins leaf k 0 n ws ws (Num leaf) (Num last) n) q (leaves-at leaf last n ws a))
 
-module _ (leaf last : Number) (i n₀ n : ℕ) (ws₀ ws ws′ : List ℕ) (x y v w : VmValue) (a : Twins leaf last i n₀ ws₀ ws x y n) (len : length ws′ ≡ length ws) (g : Grows x y n ws ws′ v w) where
+module _ (leaf last : Number) (i n₀ n : ℕ) (ws₀ ws ws′ : List ℕ) (x y v w : VmValue) (a : Twins leaf last i n₀ ws₀ ws x y n) (len : length ws′ ≡
+    length ws) (g : Grows x y n ws ws′ v w) where
   first : Stepped n ws (g .between) x y v
   first = stepped n ws (g .between) x y v (a .path .asks) (a .placed) (a .path .placed) (g .between-length) (g .path)
 
@@ -143,7 +144,8 @@ module _ (leaf last : Number) (i n₀ n : ℕ) (ws₀ ws ws′ : List ℕ) (x y 
         path = record {
           asks = second .asks;
           placed = v-stays .placed;
-          tree = v-stays .tree ∙ first .tree ∙ ap (λ (t : Value). node arr (more t (more (treeOf (cellsOf n ws) y) none))) (a .tree) ∙ ap (λ (t : Value). node arr (more (nestedTree leaf i) (more t none))) (a .path .tree);
+          tree = v-stays .tree ∙ first .tree ∙ ap (λ (t : Value). node arr (more t (more (treeOf (cellsOf n ws) y) none))) (a .tree) ∙ ap (λ (t :
+              Value). node arr (more (nestedTree leaf i) (more t none))) (a .path .tree);
           fit = first .fit;
           older = λ u p.
               let s = a .path .older u p in
@@ -235,7 +237,8 @@ turn-fails leaf last i n₀ n depth ws₀ ws ws′ x y g t h q k =
     ⊎-elim (λ (a : 4096 < n + 4). inl (omega arith)) (λ (a : 64 ≤ deepest (x ∷ y ∷ [])). inr (omega arith)) (rw q at k)
 
 -- a tree that was built
-pub nested-at : (leaf last : Number) (depth n : ℕ) (ws ws′ : List ℕ) (r : Nested) (v : VmValue) (n′ : ℕ) → r ≡ At v n′ → NestedGives leaf last depth n ws ws′ r → NestedAt leaf last depth n ws ws′ v n′
+pub nested-at : (leaf last : Number) (depth n : ℕ) (ws ws′ : List ℕ) (r : Nested) (v : VmValue) (n′ : ℕ) → r ≡ At v n′ → NestedGives leaf last depth n
+    ws ws′ r → NestedAt leaf last depth n ws ws′ v n′
 nested-at leaf last depth n ws ws′ r v n′ q k = rw q at k
 
 -- a tree behind at most as many cells as it takes is not built only where it nests over 64
@@ -289,14 +292,16 @@ pub equal-gives : (left left′ right right′ : Number) (depth n m : ℕ) (ws�
 equal-gives left left′ right right′ depth n m ws₀ ws₁ ws memo a b r x y g =
     let ta : treeOf (cellsOf m ws) a ≡ lastTree left left′ depth = y .older a (x .placed) .tree ∙ x .tree in
     let e : r ≡ equal trees noImage m (lastTree left left′ depth) (lastTree right right′ depth) =
-    g .trees noImage no-tables ∙ ap (λ (t : Value). equal trees noImage m t (treeOf (cellsOf m ws) b)) ta ∙ ap (λ (t : Value). equal trees noImage m (lastTree left left′ depth) t) (y .tree)
+    g .trees noImage no-tables ∙ ap (λ (t : Value). equal trees noImage m t (treeOf (cellsOf m ws) b)) ta ∙ ap (λ (t : Value). equal trees noImage m
+    (lastTree left left′ depth) t) (y .tree)
     in
     ((λ q. equal-decided noImage m _ _ .0 (sym e ∙ q)), (λ q. e ∙ equal-decided noImage m _ _ .1 q))
 
 pub code-asks : (leaf last : Number) (depth n : ℕ) (ws₀ ws : List ℕ) (v : VmValue) → NestedAt leaf last depth 0 ws₀ ws v n → Held ws n v
 code-asks leaf last depth n ws₀ ws v x = record { room = omega (arith, x .asks .few, x .asks .words); formed = x .asks .formed; placed = x .placed }
 
-pub code-gives : (leaf last : Number) (depth n : ℕ) (ws₀ ws : List ℕ) (v : VmValue) (words : ℕ) (l l′ : List ℕ) (r : Coded) → NestedAt leaf last depth 0 ws₀ ws v n → CodeGives ws n v l l′ r → CodedGives leaf last depth words l l′ r
+pub code-gives : (leaf last : Number) (depth n : ℕ) (ws₀ ws : List ℕ) (v : VmValue) (words : ℕ) (l l′ : List ℕ) (r : Coded) → NestedAt leaf last depth
+    0 ws₀ ws v n → CodeGives ws n v l l′ r → CodedGives leaf last depth words l l′ r
 code-gives leaf last depth n ws₀ ws v words l l′ r x g =
     let e : codeOf ws n v ≡ coded trees n (lastTree leaf last depth) = ap (coded trees n) (x .tree) in
     done n (g .answer ∙ ap (λ (bs : List ℕ). codedAnswer (leb (length bs) (length l)) bs) e) (g .out ∙ ap (λ (bs : List ℕ). codedOut (leb (length bs) (length l)) bs l) e)

@@ -22,15 +22,33 @@ add-to : tie.Need-add-to Inv-loop μ-loop
 add-to c = search needs
 
 same-length : tie.Need-same-length Inv-loop μ-loop
-same-length c = (c .before .before .loop .inv .2)
+same-length c =
+    let loop = c .before .before .loop in
+    (loop .inv .2)
 
 returns : tie.Need-returns Inv-loop μ-loop
 returns c =
-    let n : (c .before .before .loop .i) ≡ fitting (c .before .before .before .args .out .now) (c .before .before .before .args .at) (c .before .before .before .args .word .now) = omega (arith, (c .if1 .taken), (c .before .loop-test .taken), (c .before .before .loop .inv .1), (c .before .before .loop .inv .2)) in
-    (omega (arith, (c .before .before .loop .inv .1), (c .before .before .loop .inv .2)), (ap (λ (k : ℕ). (c .before .before .before .args .at) + k) n, (c .before .before .loop .inv .3) ∙ ap (paste (c .before .before .before .args .out .now) (c .before .before .before .args .at) (c .before .before .before .args .word .now)) n))
+    let loop = c .before .before .loop in
+    let args = c .before .before .before .args in
+    let n : (loop .i) ≡ fitting (args .out .now) (args .at) (args .word .now) = omega (
+      arith,
+      (c .if1 .taken),
+      (c .before .loop-test .taken),
+      (loop .inv .1),
+      (loop .inv .2),
+    ) in (
+      omega (arith, (loop .inv .1), (loop .inv .2)),
+      (
+        ap (λ (k : ℕ). (args .at) + k) n,
+        (loop .inv .3) ∙ ap (paste (args .out .now) (args .at)
+            (args .word .now)) n,
+      ),
+    )
 
 shared-slice-read-out : tie.Need-shared-slice-read-out Inv-loop μ-loop
-shared-slice-read-out c = (c .before .before .loop-test .taken)
+shared-slice-read-out c =
+    let loop-test = c .before .before .loop-test in
+    (loop-test .taken)
 
 slice-write-out : tie.Need-slice-write-out Inv-loop μ-loop
 slice-write-out c = omega (arith, (c .before .if1 .left))
@@ -39,17 +57,22 @@ add-i : tie.Need-add-i Inv-loop μ-loop
 add-i c = search needs
 
 loop-less : tie.Need-loop-less Inv-loop μ-loop
-loop-less c = omega (arith, (c .before .before .loop-test .taken))
+loop-less c =
+    let loop-test = c .before .before .loop-test in
+    omega (arith, (loop-test .taken))
 
 loop-again : tie.Need-loop-again Inv-loop μ-loop
-loop-again c = (
-  omega (arith, (c .before .before .loop-test .taken)),
-  omega (arith, (c .before .if1 .left), (c .before .before .before .loop .inv .2)),
-  length-set (c .before .before .before .loop .out) ((c .before .before .before .before .args .at) + (c .before .before .before .loop .i)) (getD (c .before .before .before .before .args .word .now) (c .before .before .before .loop .i) 0) ∙ (c .before .before .before .loop .inv .2),
-  ap (λ (x : List ℕ). set x ((c .before .before .before .before .args .at) + (c .before .before .before .loop .i)) (getD (c .before .before .before .before .args .word .now) (c .before .before .before .loop .i) 0)) (c .before .before .before .loop .inv .3)
-      ∙ paste-suc (c .before .before .before .before .args .out .now) (c .before .before .before .before .args .at) (c .before .before .before .before .args .word .now) (c .before .before .before .loop .i) 0 (omega (arith, (c .before .if1 .left), (c .before .before .before .loop .inv .2))) (c .before .before .loop-test .taken)
-      ∙ ap (paste (c .before .before .before .before .args .out .now) (c .before .before .before .before .args .at) (c .before .before .before .before .args .word .now)) (let e : suc (c .before .before .before .loop .i) ≡ (c .before .before .before .loop .i) + 1 = omega arith in e),
-)
+loop-again c =
+    let loop-test = c .before .before .loop-test in
+    let loop = c .before .before .before .loop in
+    let args = c .before .before .before .before .args in (
+      omega (arith, (loop-test .taken)),
+      omega (arith, (c .before .if1 .left), (loop .inv .2)),
+      length-set (loop .out) ((args .at) + (loop .i)) (getD (args .word .now) (loop .i) 0) ∙ (loop .inv .2),
+      ap (λ (x : List ℕ). set x ((args .at) + (loop .i)) (getD (args .word .now) (loop .i) 0)) (loop .inv .3)
+          ∙ paste-suc (args .out .now) (args .at) (args .word .now) (loop .i) 0 (omega (arith, (c .before .if1 .left), (loop .inv .2))) (loop-test .taken)
+          ∙ ap (paste (args .out .now) (args .at) (args .word .now)) (let e : suc (loop .i) ≡ (loop .i) + 1 = omega arith in e),
+    )
 
 add-result : tie.Need-add-result Inv-loop μ-loop
 add-result c = search needs
@@ -59,8 +82,20 @@ same-length-2 c = (c .before .loop .inv .2)
 
 returns-2 : tie.Need-returns-2 Inv-loop μ-loop
 returns-2 c =
-    let n : (c .before .loop .i) ≡ fitting (c .before .before .args .out .now) (c .before .before .args .at) (c .before .before .args .word .now) = omega (arith, (c .loop-test .left), (c .before .loop .inv .0), (c .before .loop .inv .1)) in
-    (omega (arith, (c .before .loop .inv .1), (c .before .loop .inv .2)), (ap (λ (k : ℕ). (c .before .before .args .at) + k) n, (c .before .loop .inv .3) ∙ ap (paste (c .before .before .args .out .now) (c .before .before .args .at) (c .before .before .args .word .now)) n))
+    let args = c .before .before .args in
+    let n : (c .before .loop .i) ≡ fitting (args .out .now) (args .at) (args .word .now) = omega (
+      arith,
+      (c .loop-test .left),
+      (c .before .loop .inv .0),
+      (c .before .loop .inv .1),
+    ) in (
+      omega (arith, (c .before .loop .inv .1), (c .before .loop .inv .2)),
+      (
+        ap (λ (k : ℕ). (args .at) + k) n,
+        (c .before .loop .inv .3) ∙ ap (paste
+            (args .out .now) (args .at) (args .word .now)) n,
+      ),
+    )
 
 pub put-spec : {M : Type 1} → statement M
 put-spec =

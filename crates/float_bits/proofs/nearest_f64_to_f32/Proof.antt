@@ -19,7 +19,8 @@ f32-of-word-requires : tie.Need-f32-of-word-requires
 f32-of-word-requires c κs = search needs
 
 returns : tie.Need-returns
-returns c = c .f32-of-word .ensures ∙ ap (ofBits binary32) (c .before .nearest-word .ensures ∙ ap nearestWord (c .before .before .word-of-f64 .ensures)) ∙ nearest-by-word _ (search needs)
+returns c = c .f32-of-word .ensures ∙ ap (ofBits binary32) (c .before .nearest-word .ensures ∙ ap nearestWord (c .before .before .word-of-f64 .ensures))
+    ∙ nearest-by-word _ (search needs)
 
 pub nearest-f64-to-f32-spec : {M : Type 1} → statement M
 nearest-f64-to-f32-spec =

@@ -47,14 +47,19 @@ kept-low m r q l e =
 
 add-result : tie.Need-add-result
 add-result c =
-    let m = c .before .before .before .before .args .m in
+    let args = c .before .before .before .before .args in
+    let m = args .m in
     omega (arith, kept m (c .shift-to-nearest .result) (c .shift-to-nearest .ensures))
 
 returns-3 : tie.Need-returns-3
 unfolding nearestMagnitude
 returns-3 c =
-    let m = c .before .before .before .before .args .m in (
-      simp (le-ltb _ _ (c .before .before .before .if1 .left), lt-leb _ _ (c .before .before .if2 .left), le-leb _ _ (c .before .if3 .taken)) (ap (λ (x : ℕ). (m / 2 ^ 52 - 897) * 2 ^ 23 + x) (c .shift-to-nearest .ensures)),
+    let if2 = c .before .before .if2 in
+    let if1 = c .before .before .before .if1 in
+    let args = c .before .before .before .before .args in
+    let m = args .m in (
+      simp (le-ltb _ _ (if1 .left), lt-leb _ _ (if2 .left), le-leb _ _ (c .before .if3 .taken)) (ap (λ (x : ℕ). (m / 2 ^ 52 - 897) * 2 ^ 23 + x)
+          (c .shift-to-nearest .ensures)),
       omega (arith, kept m (c .shift-to-nearest .result) (c .shift-to-nearest .ensures)),
     )
 
@@ -67,15 +72,27 @@ shift-to-nearest-requires-2 c κs = search needs
 returns-4 : tie.Need-returns-4
 unfolding nearestMagnitude
 returns-4 c =
-    let m = c .before .before .before .before .before .args .m in
+    let if3 = c .before .before .if3 in
+    let if2 = c .before .before .before .if2 in
+    let if1 = c .before .before .before .before .if1 in
+    let args = c .before .before .before .before .before .args in
+    let m = args .m in
     let l : 30 ≤ 926 - m / 2 ^ 52 = omega arith in (
-      simp (le-ltb _ _ (c .before .before .before .before .if1 .left), lt-leb _ _ (c .before .before .before .if2 .left), lt-leb _ _ (c .before .before .if3 .left), le-leb _ _ (c .before .if4 .taken)) (c .shift-to-nearest2 .ensures),
+      simp (le-ltb _ _ (if1 .left), lt-leb _ _ (if2 .left), lt-leb _ _ (if3 .left), le-leb _ _ (c .before .if4 .taken)) (c .shift-to-nearest2 .ensures),
       omega (arith, kept-low m (926 - m / 2 ^ 52) (c .shift-to-nearest2 .result) l (c .shift-to-nearest2 .ensures)),
     )
 
 returns-5 : tie.Need-returns-5
 unfolding nearestMagnitude
-returns-5 c = (simp (le-ltb _ _ (c .before .before .before .if1 .left), lt-leb _ _ (c .before .before .if2 .left), lt-leb _ _ (c .before .if3 .left), lt-leb _ _ (c .if4 .left)), search needs)
+returns-5 c = (
+  simp (
+    le-ltb _ _ (c .before .before .before .if1 .left),
+    lt-leb _ _ (c .before .before .if2 .left),
+    lt-leb _ _ (c .before .if3 .left),
+    lt-leb _ _ (c .if4 .left),
+  ),
+  search needs,
+)
 
 pub nearest-magnitude-spec : {M : Type 1} → statement M
 nearest-magnitude-spec =

@@ -14,12 +14,15 @@ use Rattle.clearing.proofs.clear_usize.Reads as clear-usize-reads
 
 -- src/lib.rt:138:14
 slice-relend-prefix-clear-u8 : tie.Need-slice-relend-prefix-clear-u8
-slice-relend-prefix-clear-u8 c = omega (arith, c .before .before .before .before .before .pre .room-bytes)
+slice-relend-prefix-clear-u8 c =
+    let pre = c .before .before .before .before .before .pre in
+    omega (arith, pre .room-bytes)
 
 -- src/lib.rt:138:14
 slice-aggregate-clear-u8 : tie.Need-slice-aggregate-clear-u8
 slice-aggregate-clear-u8 c =
-    let start = c .before .before .before .before .before .before in
+    let before = c .before .before .before .before .before .before in
+    let start = before in
     sym (length-take-le _ (start .args .bytes .now) (omega (arith, start .pre .room-bytes)))
 
 -- src/lib.rt:138:5
@@ -28,12 +31,15 @@ clear-u8-requires c κs = search needs
 
 -- src/lib.rt:139:17
 slice-relend-prefix-clear-usize : tie.Need-slice-relend-prefix-clear-usize
-slice-relend-prefix-clear-usize c = omega (arith, c .before .before .before .before .before .before .before .before .before .pre .room-ends)
+slice-relend-prefix-clear-usize c =
+    let pre = c .before .before .before .before .before .before .before .before .before .pre in
+    omega (arith, pre .room-ends)
 
 -- src/lib.rt:139:17
 slice-aggregate-clear-usize : tie.Need-slice-aggregate-clear-usize
 slice-aggregate-clear-usize c =
-    let start = c .before .before .before .before .before .before .before .before .before .before in
+    let before = c .before .before .before .before .before .before .before .before .before .before in
+    let start = before in
     sym (length-take-le _ (start .args .ends .now) (omega (arith, start .pre .room-ends)))
 
 -- src/lib.rt:139:5
@@ -42,12 +48,15 @@ clear-usize-requires c κs = search needs
 
 -- src/lib.rt:140:14
 slice-relend-prefix-clear-u8-2 : tie.Need-slice-relend-prefix-clear-u8-2
-slice-relend-prefix-clear-u8-2 c = omega (arith, c .before .before .before .before .before .before .before .before .before .before .before .before .before .pre .room-kinds)
+slice-relend-prefix-clear-u8-2 c =
+    let pre = c .before .before .before .before .before .before .before .before .before .before .before .before .before .pre in
+    omega (arith, pre .room-kinds)
 
 -- src/lib.rt:140:14
 slice-aggregate-clear-u8-2 : tie.Need-slice-aggregate-clear-u8-2
 slice-aggregate-clear-u8-2 c =
-    let start = c .before .before .before .before .before .before .before .before .before .before .before .before .before .before in
+    let before = c .before .before .before .before .before .before .before .before .before .before .before .before .before .before in
+    let start = before in
     sym (length-take-le _ (start .args .kinds .now) (omega (arith, start .pre .room-kinds)))
 
 -- src/lib.rt:140:5
@@ -56,12 +65,15 @@ clear-u8-requires-2 c κs = search needs
 
 -- src/lib.rt:141:15
 slice-relend-prefix-clear-u64 : tie.Need-slice-relend-prefix-clear-u64
-slice-relend-prefix-clear-u64 c = omega (arith, c .before .before .before .before .before .before .before .before .before .before .before .before .before .before .before .before .before .pre .room-payloads)
+slice-relend-prefix-clear-u64 c =
+    let pre = c .before .before .before .before .before .before .before .before .before .before .before .before .before .before .before .before .before .pre in
+    omega (arith, pre .room-payloads)
 
 -- src/lib.rt:141:15
 slice-aggregate-clear-u64 : tie.Need-slice-aggregate-clear-u64
 slice-aggregate-clear-u64 c =
-    let start = c .before .before .before .before .before .before .before .before .before .before .before .before .before .before .before .before .before .before in
+    let before = c .before .before .before .before .before .before .before .before .before .before .before .before .before .before .before .before .before .before in
+    let start = before in
     sym (length-take-le _ (start .args .payloads .now) (omega (arith, start .pre .room-payloads)))
 
 -- src/lib.rt:141:5
@@ -70,12 +82,17 @@ clear-u64-requires c κs = search needs
 
 -- src/lib.rt:142:17
 slice-relend-prefix-clear-usize-2 : tie.Need-slice-relend-prefix-clear-usize-2
-slice-relend-prefix-clear-usize-2 c = omega (arith, c .before .before .before .before .before .before .before .before .before .before .before .before .before .before .before .before .before .before .before .before .before .pre .room-table)
+slice-relend-prefix-clear-usize-2 c =
+    let pre = c .before .before .before .before .before .before .before .before .before .before .before .before .before .before .before .before .before .before .before .before .before .pre
+    in
+    omega (arith, pre .room-table)
 
 -- src/lib.rt:142:17
 slice-aggregate-clear-usize-2 : tie.Need-slice-aggregate-clear-usize-2
 slice-aggregate-clear-usize-2 c =
-    let start = c .before .before .before .before .before .before .before .before .before .before .before .before .before .before .before .before .before .before .before .before .before .before in
+    let before = c .before .before .before .before .before .before .before .before .before .before .before .before .before .before .before .before .before .before .before .before .before .before
+    in
+    let start = before in
     sym (length-take-le _ (start .args .table .now) (omega (arith, start .pre .room-table)))
 
 -- src/lib.rt:142:5
@@ -105,13 +122,20 @@ same-length-5 c = search needs
 -- src/lib.rt:124:1
 returns : tie.Need-returns
 returns c =
-    let start = c .before .before .before .before .before .before .before .before .before .before .before .before .before .before .before .before .before .before .before .before .before .before .before .before .before in
+    let clear-usize2 = c .before .before .clear-usize2 in
+    let clear-u64 = c .before .before .before .before .before .before .clear-u64 in
+    let clear-u82 = c .before .before .before .before .before .before .before .before .before .before .clear-u82 in
+    let clear-usize = c .before .before .before .before .before .before .before .before .before .before .before .before .before .before .clear-usize in
+    let clear-u8 = c .before .before .before .before .before .before .before .before .before .before .before .before .before .before .before .before .before .before .clear-u8 in
+    let before = c .before .before .before .before .before .before .before .before .before .before .before .before .before .before .before .before .before .before .before .before .before .before .before .before .before
+    in
+    let start = before in
     same-slices
-    (let done = c .before .before .before .before .before .before .before .before .before .before .before .before .before .before .before .before .before .before .clear-u8 in cleared 32768 (start .args .bytes .now) (done .last .0) (done .kept .0) (start .pre .room-bytes) (done .ensures))
-    (let done = c .before .before .before .before .before .before .before .before .before .before .before .before .before .before .clear-usize in cleared 256 (start .args .ends .now) (done .last .0) (done .kept .0) (start .pre .room-ends) (done .ensures))
-    (let done = c .before .before .before .before .before .before .before .before .before .before .clear-u82 in cleared 13107 (start .args .kinds .now) (done .last .0) (done .kept .0) (start .pre .room-kinds) (done .ensures))
-    (let done = c .before .before .before .before .before .before .clear-u64 in cleared 13107 (start .args .payloads .now) (done .last .0) (done .kept .0) (start .pre .room-payloads) (done .ensures))
-    (let done = c .before .before .clear-usize2 in cleared 260 (start .args .table .now) (done .last .0) (done .kept .0) (start .pre .room-table) (done .ensures))
+    (let done = clear-u8 in cleared 32768 (start .args .bytes .now) (done .last .0) (done .kept .0) (start .pre .room-bytes) (done .ensures))
+    (let done = clear-usize in cleared 256 (start .args .ends .now) (done .last .0) (done .kept .0) (start .pre .room-ends) (done .ensures))
+    (let done = clear-u82 in cleared 13107 (start .args .kinds .now) (done .last .0) (done .kept .0) (start .pre .room-kinds) (done .ensures))
+    (let done = clear-u64 in cleared 13107 (start .args .payloads .now) (done .last .0) (done .kept .0) (start .pre .room-payloads) (done .ensures))
+    (let done = clear-usize2 in cleared 260 (start .args .table .now) (done .last .0) (done .kept .0) (start .pre .room-table) (done .ensures))
 
 pub blank-spec : {M : Type 1} → statement M
 blank-spec =

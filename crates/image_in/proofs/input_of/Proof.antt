@@ -7,12 +7,14 @@ use Rattle.image_in.proofs.Parts.{ended, failed}
 
 returns : tie.Need-returns
 returns c =
-    let r = c .before .before .before .args .r in
+    let args = c .before .before .before .args in
+    let r = args .r in
     ended (r .last) _ (r .at) (toZ-ofZ {w = w64} {z = r .last} (record { sfits = c .before .struct-told .given .1 .0 .1 })) (c .if1 .taken)
 
 returns-2 : tie.Need-returns-2
 returns-2 c =
-    let r = c .before .before .before .args .r in
+    let args = c .before .before .before .args in
+    let r = args .r in
     failed (r .last) _ (r .at) (toZ-ofZ {w = w64} {z = r .last} (record { sfits = c .before .struct-told .given .1 .0 .1 })) (c .if1 .left)
 
 pub input-of-spec : {M : Type 1} → statement M

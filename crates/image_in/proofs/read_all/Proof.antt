@@ -19,35 +19,55 @@ loop-holds : tie.Need-loop-holds Inv-loop μ-loop
 loop-holds c = (omega arith, refl)
 
 read-part-requires : tie.Need-read-part-requires Inv-loop μ-loop
-read-part-requires c κs = (c .before .before .loop .inv .0)
+read-part-requires c κs =
+    let loop2 = c .before .before .loop in
+    (loop2 .inv .0)
 
 same-length : tie.Need-same-length Inv-loop μ-loop
-same-length c = (c .before .before .before .before .before .read-part .kept .0) ∙ (c .before .before .before .before .before .before .before .before .loop .inv .1)
+same-length c =
+    let read-part = c .before .before .before .before .before .read-part in
+    let loop2 = c .before .before .before .before .before .before .before .before .loop in
+    (read-part .kept .0) ∙ (loop2 .inv .1)
 
 returns : tie.Need-returns Inv-loop μ-loop
 returns c =
-    let loop = c .before .before .before .before .before .before .before .before .loop in
-    let part = c .before .before .before .before .before .read-part in
-    let test = c .before .before .before .before .before .before .before .loop-test .taken in
+    let read-part = c .before .before .before .before .before .read-part in
+    let loop-test = c .before .before .before .before .before .before .before .loop-test in
+    let loop2 = c .before .before .before .before .before .before .before .before .loop in
+    let loop = loop2 in
+    let part = read-part in
+    let test = loop-test .taken in
     let same = toZ-ofZ {w = w64} {z = part .result .last} (record { sfits = c .before .struct-told .given .1 .0 .1 }) in
-    over-at (part .result .last) _ (loop .at) (part .result .at) (length (part .last .0)) same (c .if1 .taken) (part .ensures .0) (omega (arith, part .kept .0, test))
+    over-at (part .result .last) _ (loop .at) (part .result .at) (length (part .last .0)) same (c .if1 .taken) (part .ensures .0) (omega (
+      arith,
+      part .kept .0,
+      test,
+    ))
 
 loop-less : tie.Need-loop-less Inv-loop μ-loop
 loop-less c =
-    let loop = c .before .before .before .before .before .before .before .before .loop in
-    let part = c .before .before .before .before .before .read-part in
-    let test = c .before .before .before .before .before .before .before .loop-test .taken in
+    let read-part = c .before .before .before .before .before .read-part in
+    let loop-test = c .before .before .before .before .before .before .before .loop-test in
+    let loop2 = c .before .before .before .before .before .before .before .before .loop in
+    let loop = loop2 in
+    let part = read-part in
+    let test = loop-test .taken in
     let same = toZ-ofZ {w = w64} {z = part .result .last} (record { sfits = c .before .struct-told .given .1 .0 .1 }) in
-    let f = further (part .result .last) _ (loop .at) (part .result .at) (length (loop .buf)) same (c .if1 .left) (part .ensures .0) (part .ensures .1) test in
+    let f = further (part .result .last) _ (loop .at) (part .result .at) (length (loop .buf)) same (c .if1 .left) (part .ensures .0) (part .ensures .1)
+    test in
     omega (arith, part .kept .0, f .0, f .1)
 
 loop-again : tie.Need-loop-again Inv-loop μ-loop
 loop-again c =
-    let loop = c .before .before .before .before .before .before .before .before .loop in
-    let part = c .before .before .before .before .before .read-part in
-    let test = c .before .before .before .before .before .before .before .loop-test .taken in
+    let read-part = c .before .before .before .before .before .read-part in
+    let loop-test = c .before .before .before .before .before .before .before .loop-test in
+    let loop2 = c .before .before .before .before .before .before .before .before .loop in
+    let loop = loop2 in
+    let part = read-part in
+    let test = loop-test .taken in
     let same = toZ-ofZ {w = w64} {z = part .result .last} (record { sfits = c .before .struct-told .given .1 .0 .1 }) in
-    let f = further (part .result .last) _ (loop .at) (part .result .at) (length (loop .buf)) same (c .if1 .left) (part .ensures .0) (part .ensures .1) test in
+    let f = further (part .result .last) _ (loop .at) (part .result .at) (length (loop .buf)) same (c .if1 .left) (part .ensures .0) (part .ensures .1)
+    test in
     (omega (arith, part .kept .0, f .1), part .kept .0 ∙ loop .inv .1)
 
 same-length-2 : tie.Need-same-length-2 Inv-loop μ-loop

@@ -17,15 +17,17 @@ sub-result c = search needs
 returns-2 : tie.Need-returns-2
 unfolding digit
 returns-2 c =
-    let f : 48 ≤ (c .before .before .before .args .x) = omega arith in
-    let g : 57 < (c .before .before .before .args .x) = omega arith in
+    let args = c .before .before .before .args in
+    let f : 48 ≤ (args .x) = omega arith in
+    let g : 57 < (args .x) = omega arith in
     (simp (le-leb _ _ f, lt-leb _ _ g, le-leb _ _ (c .before .if3 .taken), le-leb _ _ (c .if4 .taken)), omega arith)
 
 returns-3 : tie.Need-returns-3
 unfolding digit
 returns-3 c =
-    let f : 48 ≤ (c .before .before .before .args .x) = omega arith in
-    let g : 57 < (c .before .before .before .args .x) = omega arith in
+    let args = c .before .before .before .args in
+    let f : 48 ≤ (args .x) = omega arith in
+    let g : 57 < (args .x) = omega arith in
     (simp (le-leb _ _ f, lt-leb _ _ g, le-leb _ _ (c .before .if3 .taken), lt-leb _ _ (c .if4 .left)), omega arith)
 
 returns-4 : tie.Need-returns-4

@@ -26,7 +26,9 @@ shared-slice-read-if1 : tie.Need-shared-slice-read-if1 Inv-loop μ-loop
 shared-slice-read-if1 c = omega arith
 
 returns : tie.Need-returns Inv-loop μ-loop
-returns c = ((omega arith, omega arith), ((c .before .before .before .loop .inv .2), λ h. (c .if1 .taken)))
+returns c =
+    let loop = c .before .before .before .loop in
+    ((omega arith, omega arith), ((loop .inv .2), λ h. (c .if1 .taken)))
 
 add-i : tie.Need-add-i Inv-loop μ-loop
 add-i c = omega arith
@@ -35,7 +37,9 @@ loop-less : tie.Need-loop-less Inv-loop μ-loop
 loop-less c = omega arith
 
 loop-again : tie.Need-loop-again Inv-loop μ-loop
-loop-again c = (omega arith, omega arith, λ k g h. ⊎-elim (λ e. rw e (c .if1 .left)) (λ m. (c .before .before .before .loop .inv .2) k g m) (cases k _ h))
+loop-again c =
+    let loop = c .before .before .before .loop in
+    (omega arith, omega arith, λ k g h. ⊎-elim (λ e. rw e (c .if1 .left)) (λ m. (loop .inv .2) k g m) (cases k _ h))
 
 returns-2 : tie.Need-returns-2 Inv-loop μ-loop
 returns-2 c = ((omega arith, omega arith), ((c .before .loop .inv .2), λ h. absurd (apart (c .loop-test .left) h)))

@@ -8,12 +8,40 @@ use Prim.Native.Nat.{ℕ, _+_, _*_, _-_, _≤_, _<_}
 use lib.ListN.{length, take, drop, length-set}
 use lib.Seq.{drop-set-lt}
 use Rattle.definition.specs.Lines.{bytesOf}
-use Rattle.image_lines.proofs.Digits.{prepend, pair-left, decode-first, decode-second, decode-more, decode-done, whole, fields-more, line-none, line-some, line-odd, line-long, line-short}
-use Rattle.image_lines.proofs.Digits.{stops-first, stops-second, decodes-more, decodes-all, decoded-next, behind-next, writes-fields, writes-none, writes-short, writes-long, writes-odd}
+use Rattle.image_lines.proofs.Digits.{
+  prepend,
+  pair-left,
+  decode-first,
+  decode-second,
+  decode-more,
+  decode-done,
+  whole,
+  fields-more,
+  line-none,
+  line-some,
+  line-odd,
+  line-long,
+  line-short,
+}
+use Rattle.image_lines.proofs.Digits.{
+  stops-first,
+  stops-second,
+  decodes-more,
+  decodes-all,
+  decoded-next,
+  behind-next,
+  writes-fields,
+  writes-none,
+  writes-short,
+  writes-long,
+  writes-odd,
+}
 use Rattle.image_lines.specs.Fields.{decoded}
 
 abbrev Inv-loop : tie.InvT-loop
-Inv-loop digits out₀ size a b tag i₀ p₀ out i p = (length out ≡ length out₀) × (2 * i + 2 ≡ p) × (p ≤ length digits) × (bytesOf digits ≡ prepend (tag ∷ take i out) (bytesOf (drop p digits))) × ((n : ℕ) → length digits ≤ 2 * n → drop n out ≡ drop n out₀) × (decoded digits ≡ (tag ∷ take i out) ++ decoded (drop p digits)) × (drop i out ≡ drop i out₀)
+Inv-loop digits out₀ size a b tag i₀ p₀ out i p = (length out ≡ length out₀) × (2 * i + 2 ≡ p) × (p ≤ length digits) × (bytesOf digits ≡ prepend (tag
+    ∷ take i out) (bytesOf (drop p digits))) × ((n : ℕ) → length digits ≤ 2 * n → drop n out ≡ drop n out₀) × (decoded digits ≡ (tag ∷ take i out) ++
+    decoded (drop p digits)) × (drop i out ≡ drop i out₀)
 
 abbrev μ-loop : tie.MeasureT-loop
 μ-loop digits out₀ size a b tag i₀ p₀ out i p = length digits - p
@@ -35,9 +63,19 @@ hex-requires c κs = tt
 
 returns-4 : tie.Need-returns-4 Inv-loop μ-loop
 returns-4 c =
-    let digits = c .before .before .before .before .before .before .before .before .args .digits .now in
-    let bad = sym (c .before .hex .ensures .0) ∙ c .if4 .taken in
-    (line-none _ (decode-first digits [] 0 (whole _) (omega arith) bad), (tt, (λ n h. refl, writes-none _ _ (stops-first digits [] 0 refl (omega arith) bad))))
+    let args2 = c .before .before .before .before .before .before .before .before .args in
+    let digits = args2 .digits .now in
+    let bad = sym (c .before .hex .ensures .0) ∙ c .if4 .taken in (
+      line-none _ (decode-first digits [] 0 (whole _) (omega arith) bad),
+      (
+        tt,
+        (
+          λ n h. refl,
+          writes-none _ _ (stops-first digits [] 0 refl (omega
+              arith) bad),
+        ),
+      ),
+    )
 
 shared-slice-read-hex-2 : tie.Need-shared-slice-read-hex-2 Inv-loop μ-loop
 shared-slice-read-hex-2 c = omega arith
@@ -47,9 +85,19 @@ hex-requires-2 c κs = tt
 
 returns-5 : tie.Need-returns-5 Inv-loop μ-loop
 returns-5 c =
-    let digits = c .before .before .before .before .before .before .before .before .before .before .before .args .digits .now in
-    let bad = sym (c .before .hex2 .ensures .0) ∙ c .if5 .taken in
-    (line-none _ (decode-second digits [] 0 (whole _) (omega arith) bad), (tt, (λ n h. refl, writes-none _ _ (stops-second digits [] 0 refl (omega arith) bad))))
+    let args2 = c .before .before .before .before .before .before .before .before .before .before .before .args in
+    let digits = args2 .digits .now in
+    let bad = sym (c .before .hex2 .ensures .0) ∙ c .if5 .taken in (
+      line-none _ (decode-second digits [] 0 (whole _) (omega arith) bad),
+      (
+        tt,
+        (
+          λ n h. refl,
+          writes-none _ _ (stops-second digits [] 0 refl (omega
+              arith) bad),
+        ),
+      ),
+    )
 
 mul-tag : tie.Need-mul-tag Inv-loop μ-loop
 mul-tag c = omega arith
@@ -59,8 +107,10 @@ add-tag c = omega arith
 
 loop-holds : tie.Need-loop-holds Inv-loop μ-loop
 loop-holds c =
-    let digits = c .before .before .before .before .before .before .before .before .before .before .before .args .digits .now in
-    let first = c .before .before .before .before .hex .ensures .0 in
+    let hex = c .before .before .before .before .hex in
+    let args2 = c .before .before .before .before .before .before .before .before .before .before .before .args in
+    let digits = args2 .digits .now in
+    let first = hex .ensures .0 in
     let second = c .before .hex2 .ensures .0 in (
       refl,
       refl,
@@ -78,23 +128,33 @@ hex-requires-3 : tie.Need-hex-requires-3 Inv-loop μ-loop
 hex-requires-3 c κs = tt
 
 same-length : tie.Need-same-length Inv-loop μ-loop
-same-length c = (c .before .before .before .before .loop .inv .0)
+same-length c =
+    let loop2 = c .before .before .before .before .loop in
+    (loop2 .inv .0)
 
 returns-6 : tie.Need-returns-6 Inv-loop μ-loop
 returns-6 c =
-    let args = c .before .before .before .before .before .before .before .before .before .before .before .before .before .before .before .before .args in
-    let loop = c .before .before .before .before .loop in
-    let even = c .before .before .before .before .before .before .before .before .before .before .before .if3 .left in
-    let two = pair-left (length (args .digits .now)) (loop .i) (loop .p) even (loop .inv .1) (c .before .before .before .loop-test .taken) in
+    let loop-test = c .before .before .before .loop-test in
+    let loop2 = c .before .before .before .before .loop in
+    let hex2 = c .before .before .before .before .before .before .hex2 in
+    let hex = c .before .before .before .before .before .before .before .before .before .hex in
+    let if3 = c .before .before .before .before .before .before .before .before .before .before .before .if3 in
+    let if2 = c .before .before .before .before .before .before .before .before .before .before .before .before .if2 in
+    let args2 = c .before .before .before .before .before .before .before .before .before .before .before .before .before .before .before .before .args in
+    let pre = c .before .before .before .before .before .before .before .before .before .before .before .before .before .before .before .before .pre in
+    let args = args2 in
+    let loop = loop2 in
+    let even = if3 .left in
+    let two = pair-left (length (args .digits .now)) (loop .i) (loop .p) even (loop .inv .1) (loop-test .taken) in
     let wrong = sym (c .before .hex3 .ensures .0) ∙ c .if6 .taken in
-    let tag = (c .before .before .before .before .before .before .before .before .before .hex .result) * 16 + c .before .before .before .before .before .before .hex2 .result in
+    let tag = (hex .result) * 16 + hex2 .result in
     let so-far = tag ∷ take (loop .i) (loop .out) in (
       line-none _ (decode-first (args .digits .now) so-far (loop .p) (loop .inv .3) two wrong),
       (
         tt,
         (
           loop .inv .4,
-          writes-fields (args .digits .now) (loop .out) (args .out .now) tag (loop .i) (c .before .before .before .before .before .before .before .before .before .before .before .before .if2 .left) even (omega (arith, c .before .before .before .before .before .before .before .before .before .before .before .before .before .before .before .before .pre))
+          writes-fields (args .digits .now) (loop .out) (args .out .now) tag (loop .i) (if2 .left) even (omega (arith, pre))
               (stops-first (args .digits .now) so-far (loop .p) (loop .inv .5) two wrong) (loop .inv .6),
         ),
       ),
@@ -104,29 +164,44 @@ add-hex : tie.Need-add-hex Inv-loop μ-loop
 add-hex c = omega arith
 
 shared-slice-read-hex-4 : tie.Need-shared-slice-read-hex-4 Inv-loop μ-loop
-shared-slice-read-hex-4 c = pair-left (length (c .before .before .before .before .before .before .before .before .before .before .before .before .before .before .before .before .before .args .digits .now)) (c .before .before .before .before .before .loop .i) (c .before .before .before .before .before .loop .p) (c .before .before .before .before .before .before .before .before .before .before .before .before .if3 .left) (c .before .before .before .before .before .loop .inv .1) (c .before .before .before .before .loop-test .taken)
+shared-slice-read-hex-4 c =
+    let loop-test = c .before .before .before .before .loop-test in
+    let loop2 = c .before .before .before .before .before .loop in
+    let if3 = c .before .before .before .before .before .before .before .before .before .before .before .before .if3 in
+    let args2 = c .before .before .before .before .before .before .before .before .before .before .before .before .before .before .before .before .before .args in
+    pair-left (length (args2 .digits .now)) (loop2 .i) (loop2 .p) (if3 .left) (loop2 .inv .1) (loop-test .taken)
 
 hex-requires-4 : tie.Need-hex-requires-4 Inv-loop μ-loop
 hex-requires-4 c κs = tt
 
 same-length-2 : tie.Need-same-length-2 Inv-loop μ-loop
-same-length-2 c = (c .before .before .before .before .before .before .before .loop .inv .0)
+same-length-2 c =
+    let loop2 = c .before .before .before .before .before .before .before .loop in
+    (loop2 .inv .0)
 
 returns-7 : tie.Need-returns-7 Inv-loop μ-loop
 returns-7 c =
-    let args = c .before .before .before .before .before .before .before .before .before .before .before .before .before .before .before .before .before .before .before .args in
-    let loop = c .before .before .before .before .before .before .before .loop in
-    let even = c .before .before .before .before .before .before .before .before .before .before .before .before .before .before .if3 .left in
-    let two = pair-left (length (args .digits .now)) (loop .i) (loop .p) even (loop .inv .1) (c .before .before .before .before .before .before .loop-test .taken) in
+    let loop-test = c .before .before .before .before .before .before .loop-test in
+    let loop2 = c .before .before .before .before .before .before .before .loop in
+    let hex2 = c .before .before .before .before .before .before .before .before .before .hex2 in
+    let hex = c .before .before .before .before .before .before .before .before .before .before .before .before .hex in
+    let if3 = c .before .before .before .before .before .before .before .before .before .before .before .before .before .before .if3 in
+    let if2 = c .before .before .before .before .before .before .before .before .before .before .before .before .before .before .before .if2 in
+    let args2 = c .before .before .before .before .before .before .before .before .before .before .before .before .before .before .before .before .before .before .before .args in
+    let pre = c .before .before .before .before .before .before .before .before .before .before .before .before .before .before .before .before .before .before .before .pre in
+    let args = args2 in
+    let loop = loop2 in
+    let even = if3 .left in
+    let two = pair-left (length (args .digits .now)) (loop .i) (loop .p) even (loop .inv .1) (loop-test .taken) in
     let wrong = sym (c .before .hex4 .ensures .0) ∙ c .if7 .taken in
-    let tag = (c .before .before .before .before .before .before .before .before .before .before .before .before .hex .result) * 16 + c .before .before .before .before .before .before .before .before .before .hex2 .result in
+    let tag = (hex .result) * 16 + hex2 .result in
     let so-far = tag ∷ take (loop .i) (loop .out) in (
       line-none _ (decode-second (args .digits .now) so-far (loop .p) (loop .inv .3) two wrong),
       (
         tt,
         (
           loop .inv .4,
-          writes-fields (args .digits .now) (loop .out) (args .out .now) tag (loop .i) (c .before .before .before .before .before .before .before .before .before .before .before .before .before .before .before .if2 .left) even (omega (arith, c .before .before .before .before .before .before .before .before .before .before .before .before .before .before .before .before .before .before .before .pre))
+          writes-fields (args .digits .now) (loop .out) (args .out .now) tag (loop .i) (if2 .left) even (omega (arith, pre))
               (stops-second (args .digits .now) so-far (loop .p) (loop .inv .5) two wrong) (loop .inv .6),
         ),
       ),
@@ -139,7 +214,9 @@ add-out : tie.Need-add-out Inv-loop μ-loop
 add-out c = omega arith
 
 slice-write-out : tie.Need-slice-write-out Inv-loop μ-loop
-slice-write-out c = omega (arith, (c .before .before .before .before .before .before .before .before .before .before .before .before .before .before .before .before .before .before .before .pre))
+slice-write-out c =
+    let pre = c .before .before .before .before .before .before .before .before .before .before .before .before .before .before .before .before .before .before .before .pre in
+    omega (arith, pre)
 
 add-i : tie.Need-add-i Inv-loop μ-loop
 add-i c = omega arith
@@ -152,14 +229,22 @@ loop-less c = omega arith
 
 loop-again : tie.Need-loop-again Inv-loop μ-loop
 loop-again c =
-    let args = c .before .before .before .before .before .before .before .before .before .before .before .before .before .before .before .before .before .before .before .args in
-    let loop = c .before .before .before .before .before .before .before .loop in
-    let two = pair-left (length (args .digits .now)) (loop .i) (loop .p) (c .before .before .before .before .before .before .before .before .before .before .before .before .before .before .if3 .left) (loop .inv .1) (c .before .before .before .before .before .before .loop-test .taken) in
-    let tag = (c .before .before .before .before .before .before .before .before .before .before .before .before .hex .result) * 16 + c .before .before .before .before .before .before .before .before .before .hex2 .result in
-    let byte = (c .before .before .before .before .hex3 .result) * 16 + c .before .hex4 .result in
-    let first = c .before .before .before .before .hex3 .ensures .0 in
+    let hex3 = c .before .before .before .before .hex3 in
+    let loop-test = c .before .before .before .before .before .before .loop-test in
+    let loop2 = c .before .before .before .before .before .before .before .loop in
+    let hex2 = c .before .before .before .before .before .before .before .before .before .hex2 in
+    let hex = c .before .before .before .before .before .before .before .before .before .before .before .before .hex in
+    let if3 = c .before .before .before .before .before .before .before .before .before .before .before .before .before .before .if3 in
+    let args2 = c .before .before .before .before .before .before .before .before .before .before .before .before .before .before .before .before .before .before .before .args in
+    let pre = c .before .before .before .before .before .before .before .before .before .before .before .before .before .before .before .before .before .before .before .pre in
+    let args = args2 in
+    let loop = loop2 in
+    let two = pair-left (length (args .digits .now)) (loop .i) (loop .p) (if3 .left) (loop .inv .1) (loop-test .taken) in
+    let tag = (hex .result) * 16 + hex2 .result in
+    let byte = (hex3 .result) * 16 + c .before .hex4 .result in
+    let first = hex3 .ensures .0 in
     let second = c .before .hex4 .ensures .0 in
-    let room : loop .i < length (loop .out) = omega (arith, c .before .before .before .before .before .before .before .before .before .before .before .before .before .before .before .before .before .before .before .pre) in
+    let room : loop .i < length (loop .out) = omega (arith, pre) in
     let so-far = tag ∷ take (loop .i) (loop .out) in (
       simp length-set (loop .inv .0),
       omega arith,
@@ -177,17 +262,23 @@ same-length-3 c = (c .before .loop .inv .0)
 
 returns-8 : tie.Need-returns-8 Inv-loop μ-loop
 returns-8 c =
-    let args = c .before .before .before .before .before .before .before .before .before .before .before .before .before .args in
+    let hex2 = c .before .before .before .hex2 in
+    let hex = c .before .before .before .before .before .before .hex in
+    let if3 = c .before .before .before .before .before .before .before .before .if3 in
+    let if2 = c .before .before .before .before .before .before .before .before .before .if2 in
+    let args2 = c .before .before .before .before .before .before .before .before .before .before .before .before .before .args in
+    let pre = c .before .before .before .before .before .before .before .before .before .before .before .before .before .pre in
+    let args = args2 in
     let loop = c .before .loop in
-    let short = c .before .before .before .before .before .before .before .before .before .if2 .left in
-    let tag = (c .before .before .before .before .before .before .hex .result) * 16 + c .before .before .before .hex2 .result in
+    let short = if2 .left in
+    let tag = (hex .result) * 16 + hex2 .result in
     let so-far = tag ∷ take (loop .i) (loop .out) in (
       line-some _ _ _ short (decode-done (args .digits .now) so-far (loop .p) (loop .inv .3) (omega arith)),
       (
-        (omega (arith, c .before .before .before .before .before .before .before .before .before .before .before .before .before .pre), omega arith),
+        (omega (arith, pre), omega arith),
         (
           loop .inv .4,
-          writes-fields (args .digits .now) (loop .out) (args .out .now) tag (loop .i) short (c .before .before .before .before .before .before .before .before .if3 .left) (omega (arith, c .before .before .before .before .before .before .before .before .before .before .before .before .before .pre))
+          writes-fields (args .digits .now) (loop .out) (args .out .now) tag (loop .i) short (if3 .left) (omega (arith, pre))
               (decodes-all (args .digits .now) so-far (loop .p) (loop .inv .5) (omega arith)) (loop .inv .6),
         ),
       ),

@@ -23,8 +23,14 @@ judge-requires c κs = search needs
 
 returns : tie.Need-returns
 unfolding chunkOf
-returns c = (c .judge .ensures) (c .before .before .before .before .before .before .before .before .args .b .now)
-    ∙ simp (c .before .before .chunk-fits .ensures, eq-eqb _ _ (c .before .before .before .before .before .before .if1 .taken), ← (c .before .before .before .before .wide .ensures .0), ← (c .before .before .before .number .ensures))
+returns c =
+    let chunk-fits = c .before .before .chunk-fits in
+    let number = c .before .before .before .number in
+    let wide = c .before .before .before .before .wide in
+    let if1 = c .before .before .before .before .before .before .if1 in
+    let args = c .before .before .before .before .before .before .before .before .args in
+    (c .judge .ensures) (args .b .now)
+    ∙ simp (chunk-fits .ensures, eq-eqb _ _ (if1 .taken), ← (wide .ensures .0), ← (number .ensures))
 
 returns-2 : tie.Need-returns-2
 unfolding chunkOf

@@ -14,7 +14,9 @@ judge-requires c κs = search needs
 
 returns : tie.Need-returns
 unfolding codeLine
-returns c = (c .judge .ensures) (c .before .before .before .args .b .now) ∙ simp (c .before .if1 .taken)
+returns c =
+    let args = c .before .before .before .args in
+    (c .judge .ensures) (args .b .now) ∙ simp (c .before .if1 .taken)
 
 judge-requires-2 : tie.Need-judge-requires-2
 judge-requires-2 c κs = search needs
@@ -22,8 +24,10 @@ judge-requires-2 c κs = search needs
 returns-2 : tie.Need-returns-2
 unfolding codeLine
 returns-2 c =
-    let some : 1 ≤ length (c .before .before .before .before .args .b .now) = omega (arith, c .before .before .if1 .left) in
-    (c .judge2 .ensures) (c .before .before .before .before .args .b .now) ∙ simp (le-leb _ _ some, lt-leb _ _ (c .before .if2 .taken))
+    let if1 = c .before .before .if1 in
+    let args = c .before .before .before .before .args in
+    let some : 1 ≤ length (args .b .now) = omega (arith, if1 .left) in
+    (c .judge2 .ensures) (args .b .now) ∙ simp (le-leb _ _ some, lt-leb _ _ (c .before .if2 .taken))
 
 add-room : tie.Need-add-room
 unfolding codeLine
@@ -35,8 +39,10 @@ judge-requires-3 c κs = search needs
 returns-3 : tie.Need-returns-3
 unfolding codeLine
 returns-3 c =
-    let some : 1 ≤ length (c .before .before .before .before .args .b .now) = omega (arith, c .before .before .if1 .left) in
-    (c .judge3 .ensures) (c .before .before .before .before .args .b .now) ∙ simp (le-leb _ _ some, le-leb _ _ (c .before .if2 .left))
+    let if1 = c .before .before .if1 in
+    let args = c .before .before .before .before .args in
+    let some : 1 ≤ length (args .b .now) = omega (arith, if1 .left) in
+    (c .judge3 .ensures) (args .b .now) ∙ simp (le-leb _ _ some, le-leb _ _ (c .before .if2 .left))
 
 pub code-line-spec : {M : Type 1} → statement M
 code-line-spec = tie.close (tie.spec judge-requires returns judge-requires-2 returns-2 add-room judge-requires-3 returns-3)

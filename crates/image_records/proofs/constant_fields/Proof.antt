@@ -34,19 +34,43 @@ judge-requires c κs = search needs
 
 returns-2 : tie.Need-returns-2
 returns-2 c =
-    let some : 0 < length (c .before .before .before .before .before .before .before .before .before .before .before .args .b .now) = omega (arith, c .before .before .before .before .before .before .before .before .before .if1 .left) in
-    (c .judge .ensures) (c .before .before .before .before .before .before .before .before .before .before .before .args .b .now)
-    ∙ simp (c .before .before .is-allowed .ensures, lt-ltb _ _ some, ← (c .before .before .before .before .before .before .before .is-listed .ensures), (c .before .before .before .before .before .before .if2 .taken), ← (c .before .before .before .before .before .width-of .ensures .0), eq-eqb _ _ (c .before .before .before .before .if3 .taken), ← (c .before .before .before .number .ensures))
+    let is-allowed = c .before .before .is-allowed in
+    let number = c .before .before .before .number in
+    let if3 = c .before .before .before .before .if3 in
+    let width-of = c .before .before .before .before .before .width-of in
+    let if2 = c .before .before .before .before .before .before .if2 in
+    let is-listed = c .before .before .before .before .before .before .before .is-listed in
+    let if1 = c .before .before .before .before .before .before .before .before .before .if1 in
+    let args = c .before .before .before .before .before .before .before .before .before .before .before .args in
+    let some : 0 < length (args .b .now) = omega (arith, if1 .left) in
+    (c .judge .ensures) (args .b .now)
+    ∙ simp (
+      is-allowed .ensures,
+      lt-ltb _ _ some,
+      ← (is-listed .ensures),
+      (if2 .taken),
+      ← (width-of .ensures .0),
+      eq-eqb _ _ (if3 .taken),
+      ←
+          (number .ensures),
+    )
 
 returns-3 : tie.Need-returns-3
 returns-3 c =
-    let some : 0 < length (c .before .before .before .before .before .before .before .args .b .now) = omega (arith, c .before .before .before .before .before .if1 .left) in
-    simp (lt-ltb _ _ some, ← (c .before .before .before .is-listed .ensures), (c .before .before .if2 .taken), ← (c .before .width-of .ensures .0), ne-eqb _ _ (c .if3 .left))
+    let if2 = c .before .before .if2 in
+    let is-listed = c .before .before .before .is-listed in
+    let if1 = c .before .before .before .before .before .if1 in
+    let args = c .before .before .before .before .before .before .before .args in
+    let some : 0 < length (args .b .now) = omega (arith, if1 .left) in
+    simp (lt-ltb _ _ some, ← (is-listed .ensures), (if2 .taken), ← (c .before .width-of .ensures .0), ne-eqb _ _ (c .if3 .left))
 
 returns-4 : tie.Need-returns-4
 returns-4 c =
-    let some : 0 < length (c .before .before .before .before .before .args .b .now) = omega (arith, c .before .before .before .if1 .left) in
+    let if1 = c .before .before .before .if1 in
+    let args = c .before .before .before .before .before .args in
+    let some : 0 < length (args .b .now) = omega (arith, if1 .left) in
     simp (lt-ltb _ _ some, ← (c .before .is-listed .ensures), (c .if2 .left))
 
 pub constant-fields-spec : {M : Type 1} → statement M
-constant-fields-spec = tie.close (tie.spec returns shared-slice-read-kind is-listed-requires width-of-requires add-if3 number-requires is-allowed-requires judge-requires returns-2 returns-3 returns-4)
+constant-fields-spec = tie.close (tie.spec returns shared-slice-read-kind is-listed-requires width-of-requires add-if3 number-requires
+    is-allowed-requires judge-requires returns-2 returns-3 returns-4)

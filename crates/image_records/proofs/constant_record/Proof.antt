@@ -12,7 +12,9 @@ constant-fields-requires c κs = search needs
 
 returns : tie.Need-returns
 unfolding constantOf
-returns c = simp (← (c .before .before .takes-constant .ensures), (c .before .if1 .taken)) (c .constant-fields .ensures)
+returns c =
+    let takes-constant = c .before .before .takes-constant in
+    simp (← (takes-constant .ensures), (c .before .if1 .taken)) (c .constant-fields .ensures)
 
 returns-2 : tie.Need-returns-2
 unfolding constantOf

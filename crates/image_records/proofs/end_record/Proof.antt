@@ -9,7 +9,9 @@ judge-requires c κs = search needs
 
 returns : tie.Need-returns
 unfolding endOf
-returns c = (c .judge .ensures) (c .before .before .before .args .b .now)
+returns c =
+    let args = c .before .before .before .args in
+    (c .judge .ensures) (args .b .now)
 
 pub end-record-spec : {M : Type 1} → statement M
 end-record-spec = tie.close (tie.spec judge-requires returns)

@@ -24,14 +24,23 @@ is-scalar-requires c κs = search needs
 
 returns-3 : tie.Need-returns-3
 unfolding allowed
-returns-3 c = simp (ne-eqb _ _ (c .before .before .before .if1 .left), ne-eqb _ _ (c .before .before .if2 .left), eq-eqb _ _ (c .before .if3 .taken)) (c .is-scalar .ensures)
+returns-3 c =
+    let if2 = c .before .before .if2 in
+    let if1 = c .before .before .before .if1 in
+    simp (ne-eqb _ _ (if1 .left), ne-eqb _ _ (if2 .left), eq-eqb _ _ (c .before .if3 .taken)) (c .is-scalar .ensures)
 
 returns-4 : tie.Need-returns-4
-returns-4 c = function-rule _ _ _ _ (c .before .before .before .if1 .left) (c .before .before .if2 .left) (c .before .if3 .left) (c .if4 .taken)
+returns-4 c =
+    let if2 = c .before .before .if2 in
+    let if1 = c .before .before .before .if1 in
+    function-rule _ _ _ _ (if1 .left) (if2 .left) (c .before .if3 .left) (c .if4 .taken)
 
 returns-5 : tie.Need-returns-5
 unfolding allowed
-returns-5 c = simp (ne-eqb _ _ (c .before .before .before .if1 .left), ne-eqb _ _ (c .before .before .if2 .left), ne-eqb _ _ (c .before .if3 .left), ne-eqb _ _ (c .if4 .left))
+returns-5 c =
+    let if2 = c .before .before .if2 in
+    let if1 = c .before .before .before .if1 in
+    simp (ne-eqb _ _ (if1 .left), ne-eqb _ _ (if2 .left), ne-eqb _ _ (c .before .if3 .left), ne-eqb _ _ (c .if4 .left))
 
 pub is-allowed-spec : {M : Type 1} → statement M
 is-allowed-spec =

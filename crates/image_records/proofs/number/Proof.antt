@@ -26,7 +26,9 @@ shared-slice-read-with-byte : tie.Need-shared-slice-read-with-byte Inv-loop μ-l
 shared-slice-read-with-byte c = omega arith
 
 with-byte-requires : tie.Need-with-byte-requires Inv-loop μ-loop
-with-byte-requires c κs = number-room _ _ (c .before .before .loop .inv .1) (omega arith)
+with-byte-requires c κs =
+    let loop = c .before .before .loop in
+    number-room _ _ (loop .inv .1) (omega arith)
 
 add-i : tie.Need-add-i Inv-loop μ-loop
 add-i c = omega arith
@@ -35,10 +37,21 @@ loop-less : tie.Need-loop-less Inv-loop μ-loop
 loop-less c = omega arith
 
 loop-again : tie.Need-loop-again Inv-loop μ-loop
-loop-again c = (omega arith, number-next _ _ _ _ (c .with-byte .ensures .0) (c .before .before .before .loop .inv .1) (c .with-byte .ensures .1), ap (λ (u : ℕ). numberFrom u (drop ((c .before .before .before .loop .i) + 1 + 1) (c .before .before .before .before .before .args .b .now))) (c .with-byte .ensures .0) ∙ number-more (c .before .before .before .before .before .args .b .now) (c .before .before .before .loop .v) (c .before .before .before .loop .i) (getD (c .before .before .before .before .before .args .b .now) ((c .before .before .before .loop .i) + 1) 0) (c .before .before .loop-test .taken) refl ∙ (c .before .before .before .loop .inv .2))
+loop-again c =
+    let loop-test = c .before .before .loop-test in
+    let loop = c .before .before .before .loop in
+    let args = c .before .before .before .before .before .args in (
+      omega arith,
+      number-next _ _ _ _ (c .with-byte .ensures .0) (loop .inv .1) (c .with-byte .ensures .1),
+      ap (λ (u : ℕ). numberFrom u (drop ((loop .i)
+          + 1 + 1) (args .b .now))) (c .with-byte .ensures .0) ∙ number-more (args .b .now) (loop .v) (loop .i) (getD (args .b .now) ((loop .i) + 1) 0)
+          (loop-test .taken) refl ∙ (loop .inv .2),
+    )
 
 returns : tie.Need-returns Inv-loop μ-loop
-returns c = number-end (c .before .before .before .args .b .now) _ (c .before .loop .i) (c .loop-test .left) ∙ (c .before .loop .inv .2)
+returns c =
+    let args = c .before .before .before .args in
+    number-end (args .b .now) _ (c .before .loop .i) (c .loop-test .left) ∙ (c .before .loop .inv .2)
 
 pub number-spec : {M : Type 1} → statement M
 number-spec =

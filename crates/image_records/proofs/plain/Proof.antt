@@ -20,7 +20,10 @@ shared-slice-read-if1 : tie.Need-shared-slice-read-if1 Inv-loop μ-loop
 shared-slice-read-if1 c = omega arith
 
 returns : tie.Need-returns Inv-loop μ-loop
-returns c = sym (plain-low _ _ (c .before .before .loop-test .taken) (c .if1 .taken)) ∙ (c .before .before .before .loop .inv .1)
+returns c =
+    let loop-test = c .before .before .loop-test in
+    let loop = c .before .before .before .loop in
+    sym (plain-low _ _ (loop-test .taken) (c .if1 .taken)) ∙ (loop .inv .1)
 
 shared-slice-read-if2 : tie.Need-shared-slice-read-if2 Inv-loop μ-loop
 shared-slice-read-if2 c = omega arith
@@ -32,10 +35,18 @@ loop-less : tie.Need-loop-less Inv-loop μ-loop
 loop-less c = omega arith
 
 loop-again : tie.Need-loop-again Inv-loop μ-loop
-loop-again c = (omega arith, sym (plain-more _ _ (c .before .before .before .before .loop-test .taken) (c .before .before .if1 .left) (c .if2 .taken)) ∙ (c .before .before .before .before .before .loop .inv .1))
+loop-again c =
+    let if1 = c .before .before .if1 in
+    let loop-test = c .before .before .before .before .loop-test in
+    let loop = c .before .before .before .before .before .loop in
+    (omega arith, sym (plain-more _ _ (loop-test .taken) (if1 .left) (c .if2 .taken)) ∙ (loop .inv .1))
 
 returns-2 : tie.Need-returns-2 Inv-loop μ-loop
-returns-2 c = sym (plain-high _ _ (c .before .before .before .before .loop-test .taken) (c .before .before .if1 .left) (c .if2 .left)) ∙ (c .before .before .before .before .before .loop .inv .1)
+returns-2 c =
+    let if1 = c .before .before .if1 in
+    let loop-test = c .before .before .before .before .loop-test in
+    let loop = c .before .before .before .before .before .loop in
+    sym (plain-high _ _ (loop-test .taken) (if1 .left) (c .if2 .left)) ∙ (loop .inv .1)
 
 returns-3 : tie.Need-returns-3 Inv-loop μ-loop
 returns-3 c = sym (plain-end _ _ (c .loop-test .left)) ∙ (c .before .loop .inv .1)

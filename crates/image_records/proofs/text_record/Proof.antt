@@ -16,7 +16,11 @@ judge-requires c κs = search needs
 
 returns : tie.Need-returns
 unfolding textOf
-returns c = (c .judge .ensures) (c .before .before .before .before .before .args .b .now) ∙ rw (c .before .before .before .takes-text .ensures, c .before .before .plain .ensures)
+returns c =
+    let plain = c .before .before .plain in
+    let takes-text = c .before .before .before .takes-text in
+    let args = c .before .before .before .before .before .args in
+    (c .judge .ensures) (args .b .now) ∙ rw (takes-text .ensures, plain .ensures)
 
 pub text-record-spec : {M : Type 1} → statement M
 text-record-spec = tie.close (tie.spec takes-text-requires plain-requires judge-requires returns)

@@ -19,7 +19,9 @@ wide-requires-2 c κs = search needs
 
 returns : tie.Need-returns
 unfolding widthOf widths
-returns c = ((c .wide2 .ensures .0) ∙ rw (← (c .before .before .wide .ensures .0)), subst (λ (n : ℕ). n ≤ 8) (sym (c .wide2 .ensures .0)) (width-small (c .before .before .wide .result)))
+returns c =
+    let wide = c .before .before .wide in
+    ((c .wide2 .ensures .0) ∙ rw (← (wide .ensures .0)), subst (λ (n : ℕ). n ≤ 8) (sym (c .wide2 .ensures .0)) (width-small (wide .result)))
 
 returns-2 : tie.Need-returns-2
 unfolding widthOf widths

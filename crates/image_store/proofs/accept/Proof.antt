@@ -14,7 +14,9 @@ mul-ends : tie.Need-mul-ends
 mul-ends c = search needs
 
 slice-write-ends : tie.Need-slice-write-ends
-slice-write-ends c = omega (arith, (c .before .before .before .before .before .before .pre .room-ends), rw (c .enum-told .given .1) at (c .before .before .before .before .before .before .pre .fine))
+slice-write-ends c =
+    let pre = c .before .before .before .before .before .before .pre in
+    omega (arith, (pre .room-ends), rw (c .enum-told .given .1) at (pre .fine))
 
 after-text-requires : tie.Need-after-text-requires
 after-text-requires c κs = search needs
@@ -71,13 +73,23 @@ same-length : tie.Need-same-length
 same-length c = search needs
 
 returns : tie.Need-returns
-returns c = rw (c .before .enum-told .given .1) (accept-text _ _ _ _ _ _ _ (c .after-text .ensures) (omega (arith, (c .before .before .before .before .before .before .before .pre .room-ends), rw (c .before .enum-told .given .1) at (c .before .before .before .before .before .before .before .pre .fine))))
+returns c =
+    let pre = c .before .before .before .before .before .before .before .pre in
+    rw (c .before .enum-told .given .1) (accept-text _ _ _ _ _ _ _ (c .after-text .ensures) (omega (
+      arith,
+      (pre .room-ends),
+      rw (c .before .enum-told .given .1)
+          at (pre .fine),
+    )))
 
 same-length-2 : tie.Need-same-length-2
 same-length-2 c = search needs
 
 returns-2 : tie.Need-returns-2
-returns-2 c = rw (c .before .before .before .before .before .before .r .given .1) (accept-chunk _ _ _ _ _ _ _ _ _ _ (c .after-chunk .ensures) (c .before .before .before .put-row .ensures .0) (c .before .before .before .put-row .ensures .1))
+returns-2 c =
+    let put-row = c .before .before .before .put-row in
+    let r = c .before .before .before .before .before .before .r in
+    rw (r .given .1) (accept-chunk _ _ _ _ _ _ _ _ _ _ (c .after-chunk .ensures) (put-row .ensures .0) (put-row .ensures .1))
 
 same-length-3 : tie.Need-same-length-3
 same-length-3 c = search needs
@@ -86,7 +98,10 @@ same-length-4 : tie.Need-same-length-4
 same-length-4 c = search needs
 
 returns-3 : tie.Need-returns-3
-returns-3 c = rw (c .before .before .r2 .given .1) (accept-constant _ _ _ _ _ _ _ _ _ (c .after-constant .ensures) (omega (arith, (c .before .before .before .before .before .before .before .before .pre))) (omega (arith, (c .before .before .before .before .before .before .before .before .pre))))
+returns-3 c =
+    let r2 = c .before .before .r2 in
+    let pre = c .before .before .before .before .before .before .before .before .pre in
+    rw (r2 .given .1) (accept-constant _ _ _ _ _ _ _ _ _ (c .after-constant .ensures) (omega (arith, pre)) (omega (arith, pre)))
 
 returns-4 : tie.Need-returns-4
 returns-4 c = rw (c .before .enum-told2 .given .1) (accept-code _ _ _ _ _ _ _ (c .after-code .ensures))
@@ -95,7 +110,10 @@ same-length-5 : tie.Need-same-length-5
 same-length-5 c = search needs
 
 returns-5 : tie.Need-returns-5
-returns-5 c = rw (c .before .before .before .before .before .enum-told3 .given .1) (accept-end _ _ _ _ _ _ _ _ (c .after-end .ensures) (c .before .before .before .put-row2 .ensures .0) (c .before .before .before .put-row2 .ensures .1))
+returns-5 c =
+    let put-row2 = c .before .before .before .put-row2 in
+    let enum-told3 = c .before .before .before .before .before .enum-told3 in
+    rw (enum-told3 .given .1) (accept-end _ _ _ _ _ _ _ _ (c .after-end .ensures) (put-row2 .ensures .0) (put-row2 .ensures .1))
 
 returns-6 : tie.Need-returns-6
 returns-6 c = rw (c .enum-told4 .given .1) (accept-fault _ _ _ _ _ _ _)

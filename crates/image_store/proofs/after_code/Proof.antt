@@ -12,7 +12,9 @@ add-t5 : tie.Need-add-t5
 add-t5 c = search needs
 
 returns : tie.Need-returns
-returns c = rw (c .before .before .part-after .ensures)
+returns c =
+    let part-after = c .before .before .part-after in
+    rw (part-after .ensures)
 
 pub after-code-spec : {M : Type 1} → statement M
 after-code-spec = tie.close (tie.spec part-after-requires add-t4 add-t5 returns)

@@ -34,10 +34,16 @@ returns-4 : tie.Need-returns-4
 returns-4 c = rw (c .enum-told4 .given .1)
 
 returns-5 : tie.Need-returns-5
-returns-5 c = rw (c .before .before .before .enum-told5 .given .1) (simp (eq-eqb _ _ (c .before .before .if1 .taken), lt-ltb _ _ (c .if2 .taken)))
+returns-5 c =
+    let if1 = c .before .before .if1 in
+    let enum-told5 = c .before .before .before .enum-told5 in
+    rw (enum-told5 .given .1) (simp (eq-eqb _ _ (if1 .taken), lt-ltb _ _ (c .if2 .taken)))
 
 returns-6 : tie.Need-returns-6
-returns-6 c = rw (c .before .before .before .enum-told5 .given .1) (simp (eq-eqb _ _ (c .before .before .if1 .taken), le-ltb _ _ (c .if2 .left)))
+returns-6 c =
+    let if1 = c .before .before .if1 in
+    let enum-told5 = c .before .before .before .enum-told5 in
+    rw (enum-told5 .given .1) (simp (eq-eqb _ _ (if1 .taken), le-ltb _ _ (c .if2 .left)))
 
 returns-7 : tie.Need-returns-7
 returns-7 c = rw (c .before .enum-told5 .given .1) (simp (ne-eqb _ _ (c .if1 .left)))

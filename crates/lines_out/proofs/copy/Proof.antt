@@ -25,7 +25,10 @@ add-out : tie.Need-add-out Inv-loop μ-loop
 add-out c = let h = (c .before .before .before .pre) in let g = (c .before .loop-test .taken) in search needs
 
 slice-write-out : tie.Need-slice-write-out Inv-loop μ-loop
-slice-write-out c = omega (arith, (c .before .before .loop .inv .1), (c .before .before .before .pre), (c .before .loop-test .taken))
+slice-write-out c =
+    let loop = c .before .before .loop in
+    let pre = c .before .before .before .pre in
+    omega (arith, (loop .inv .1), pre, (c .before .loop-test .taken))
 
 add-i : tie.Need-add-i Inv-loop μ-loop
 add-i c = let h = (c .before .before .before .pre) in let g = (c .before .loop-test .taken) in search needs
@@ -34,13 +37,23 @@ loop-less : tie.Need-loop-less Inv-loop μ-loop
 loop-less c = omega (arith, (c .before .loop-test .taken))
 
 loop-again : tie.Need-loop-again Inv-loop μ-loop
-loop-again c = (omega (arith, (c .before .loop-test .taken)), length-set (c .before .before .loop .out) ((c .before .before .before .args .at) + (c .before .before .loop .i)) (getD (c .before .before .before .args .word .now) (c .before .before .loop .i) 0) ∙ (c .before .before .loop .inv .1), copy-next (c .before .before .before .args .out .now) (c .before .before .loop .out) (c .before .before .before .args .word .now) (c .before .before .before .args .at) (c .before .before .loop .i) (c .before .before .before .pre) (c .before .loop-test .taken) (c .before .before .loop .inv .2))
+loop-again c =
+    let loop = c .before .before .loop in
+    let args = c .before .before .before .args in
+    let pre = c .before .before .before .pre in (
+      omega (arith, (c .before .loop-test .taken)),
+      length-set (loop .out) ((args .at) + (loop .i)) (getD (args .word .now) (loop .i) 0) ∙ (loop .inv .1),
+      copy-next (args .out .now) (loop .out) (args .word .now) (args .at) (loop .i) pre (c .before .loop-test .taken) (loop .inv .2),
+    )
 
 same-length : tie.Need-same-length Inv-loop μ-loop
 same-length c = (c .before .loop .inv .1)
 
 returns : tie.Need-returns Inv-loop μ-loop
-returns c = copied (c .before .before .args .out .now) (c .before .loop .out) (c .before .before .args .word .now) (c .before .before .args .at) (c .before .loop .i) (omega (arith, (c .before .loop .inv .0), (c .loop-test .left))) (c .before .loop .inv .2)
+returns c =
+    let args = c .before .before .args in
+    copied (args .out .now) (c .before .loop .out) (args .word .now) (args .at) (c .before .loop .i) (omega (arith, (c .before .loop .inv .0), (c .loop-test .left)))
+    (c .before .loop .inv .2)
 
 pub copy-spec : {M : Type 1} → statement M
 copy-spec =

@@ -16,13 +16,24 @@ slice-aggregate-put : tie.Need-slice-aggregate-put
 slice-aggregate-put c = search needs
 
 put-requires : tie.Need-put-requires
-put-requires c κs = omega (arith, (c .before .before .decimal .ensures .0 .1), twenty (c .before .before .decimal .result) (c .before .before .before .before .before .args .n) (c .before .before .decimal .ensures .1 .0) (c .before .before .before .before .before .fits .n .fits), (c .before .before .before .before .before .pre))
+put-requires c κs =
+    let decimal = c .before .before .decimal in
+    let args = c .before .before .before .before .before .args in
+    let fits = c .before .before .before .before .before .fits in
+    let pre = c .before .before .before .before .before .pre in
+    omega (arith, (decimal .ensures .0 .1), twenty (decimal .result) (args .n) (decimal .ensures .1 .0) (fits .n .fits), pre)
 
 same-length : tie.Need-same-length
 same-length c = search needs
 
 returns : tie.Need-returns
-returns c = decimal-put (c .before .before .before .before .before .decimal .last .1 .0) (c .before .before .before .before .before .decimal .result) (c .before .before .before .before .before .before .before .before .args .n) (c .before .before .before .before .before .decimal .ensures .0 .1) (c .before .before .before .before .before .decimal .ensures .1 .1) (c .before .before .before .before .before .decimal .ensures .1 .0) (c .before .before .before .before .before .before .before .before .fits .n .fits) (c .before .before .put .ensures)
+returns c =
+    let put = c .before .before .put in
+    let decimal = c .before .before .before .before .before .decimal in
+    let args = c .before .before .before .before .before .before .before .before .args in
+    let fits = c .before .before .before .before .before .before .before .before .fits in
+    decimal-put (decimal .last .1 .0) (decimal .result) (args .n) (decimal .ensures .0 .1) (decimal .ensures .1 .1) (decimal .ensures .1 .0) (fits .n .fits)
+    (put .ensures)
 
 pub put-decimal-spec : {M : Type 1} → statement M
 put-decimal-spec =

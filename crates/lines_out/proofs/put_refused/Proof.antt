@@ -32,9 +32,15 @@ same-length c = search needs
 
 returns : tie.Need-returns
 returns c =
-    let d = then ((c .before .before .before .before .before .before .before .put-decimal2 .ensures) .0) (c .before .before .put3 .ensures) in
-    let n = then ((c .before .before .before .before .before .before .before .before .before .before .before .before .before .before .before .before .put-decimal .ensures) .0) (then (c .before .before .before .before .before .before .before .before .before .before .before .put2 .ensures) d) in
-    let all = then (c .before .before .before .before .before .before .before .before .before .before .before .before .before .before .before .before .before .before .before .before .put .ensures) n in
+    let put3 = c .before .before .put3 in
+    let put-decimal2 = c .before .before .before .before .before .before .before .put-decimal2 in
+    let put2 = c .before .before .before .before .before .before .before .before .before .before .before .put2 in
+    let put-decimal = c .before .before .before .before .before .before .before .before .before .before .before .before .before .before .before .before .put-decimal in
+    let put = c .before .before .before .before .before .before .before .before .before .before .before .before .before .before .before .before .before .before .before .before .put
+    in
+    let d = then ((put-decimal2 .ensures) .0) (put3 .ensures) in
+    let n = then ((put-decimal .ensures) .0) (then (put2 .ensures) d) in
+    let all = then (put .ensures) n in
     all
 
 pub put-refused-spec : {M : Type 1} → statement M

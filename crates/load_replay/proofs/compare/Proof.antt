@@ -38,7 +38,10 @@ part-listed-end : tie.Need-part-listed-end
 part-listed-end c = search needs
 
 slice-aggregate-answered : tie.Need-slice-aggregate-answered
-slice-aggregate-answered c = sym (length-take-le (c .before .before .before .before .before .before .before .before .before .before .args .n) (c .before .before .before .before .before .before .before .before .before .before .args .text .now) (c .before .before .before .before .before .if2 .left))
+slice-aggregate-answered c =
+    let if2 = c .before .before .before .before .before .if2 in
+    let args = c .before .before .before .before .before .before .before .before .before .before .args in
+    sym (length-take-le (args .n) (args .text .now) (if2 .left))
 
 same-requires : tie.Need-same-requires
 same-requires c κs = search needs

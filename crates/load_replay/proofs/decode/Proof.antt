@@ -18,7 +18,9 @@ shared-slice-read-if1 : tie.Need-shared-slice-read-if1 Inv-loop μ-loop
 shared-slice-read-if1 c = omega arith
 
 same-length : tie.Need-same-length Inv-loop μ-loop
-same-length c = (c .before .before .before .loop .inv)
+same-length c =
+    let loop = c .before .before .before .loop in
+    (loop .inv)
 
 returns : tie.Need-returns Inv-loop μ-loop
 returns c = tt
@@ -27,7 +29,9 @@ sub-if2 : tie.Need-sub-if2 Inv-loop μ-loop
 sub-if2 c = omega arith
 
 same-length-2 : tie.Need-same-length-2 Inv-loop μ-loop
-same-length-2 c = (c .before .before .before .before .loop .inv)
+same-length-2 c =
+    let loop = c .before .before .before .before .loop in
+    (loop .inv)
 
 returns-2 : tie.Need-returns-2 Inv-loop μ-loop
 returns-2 c = tt
@@ -48,22 +52,31 @@ hex-requires-2 : tie.Need-hex-requires-2 Inv-loop μ-loop
 hex-requires-2 c κs = tt
 
 same-length-3 : tie.Need-same-length-3 Inv-loop μ-loop
-same-length-3 c = (c .before .before .before .before .before .before .before .before .before .loop .inv)
+same-length-3 c =
+    let loop = c .before .before .before .before .before .before .before .before .before .loop in
+    (loop .inv)
 
 returns-3 : tie.Need-returns-3 Inv-loop μ-loop
 returns-3 c = tt
 
 same-length-4 : tie.Need-same-length-4 Inv-loop μ-loop
-same-length-4 c = (c .before .before .before .before .before .before .before .before .before .before .loop .inv)
+same-length-4 c =
+    let loop = c .before .before .before .before .before .before .before .before .before .before .loop in
+    (loop .inv)
 
 returns-4 : tie.Need-returns-4 Inv-loop μ-loop
 returns-4 c = tt
 
 mul-out : tie.Need-mul-out Inv-loop μ-loop
-mul-out c = omega (arith, (c .before .before .before .before .before .hex .ensures .1))
+mul-out c =
+    let hex = c .before .before .before .before .before .hex in
+    omega (arith, (hex .ensures .1))
 
 add-out : tie.Need-add-out Inv-loop μ-loop
-add-out c = omega (arith, (c .before .before .before .before .before .hex .ensures .1), (c .before .before .before .hex2 .ensures .1))
+add-out c =
+    let hex2 = c .before .before .before .hex2 in
+    let hex = c .before .before .before .before .before .hex in
+    omega (arith, (hex .ensures .1), (hex2 .ensures .1))
 
 slice-write-out : tie.Need-slice-write-out Inv-loop μ-loop
 slice-write-out c = omega arith
@@ -72,7 +85,9 @@ add-n : tie.Need-add-n Inv-loop μ-loop
 add-n c = omega arith
 
 same-length-5 : tie.Need-same-length-5 Inv-loop μ-loop
-same-length-5 c = (c .before .before .before .before .before .before .before .before .before .before .before .loop .inv)
+same-length-5 c =
+    let loop = c .before .before .before .before .before .before .before .before .before .before .before .loop in
+    (loop .inv)
 
 returns-5 : tie.Need-returns-5 Inv-loop μ-loop
 returns-5 c = tt
@@ -84,7 +99,9 @@ loop-less : tie.Need-loop-less Inv-loop μ-loop
 loop-less c = omega arith
 
 loop-again : tie.Need-loop-again Inv-loop μ-loop
-loop-again c = simp length-set (c .before .before .before .before .before .before .before .before .before .before .before .loop .inv)
+loop-again c =
+    let loop = c .before .before .before .before .before .before .before .before .before .before .before .loop in
+    simp length-set (loop .inv)
 
 same-length-6 : tie.Need-same-length-6 Inv-loop μ-loop
 same-length-6 c = (c .before .loop .inv)

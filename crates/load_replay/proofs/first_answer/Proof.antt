@@ -5,7 +5,9 @@ use mathlib.Core.Path.{sym}
 use lib.Seq.{length-take-le}
 
 slice-aggregate-answer : tie.Need-slice-aggregate-answer
-slice-aggregate-answer c = sym (length-take-le (c .before .before .before .before .args .n) (c .before .before .before .before .args .bytes .now) (c .before .if1 .taken))
+slice-aggregate-answer c =
+    let args = c .before .before .before .before .args in
+    sym (length-take-le (args .n) (args .bytes .now) (c .before .if1 .taken))
 
 answer-requires : tie.Need-answer-requires
 answer-requires c κs = search needs

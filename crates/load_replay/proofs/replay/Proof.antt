@@ -24,7 +24,9 @@ answer-mark-requires : tie.Need-answer-mark-requires Inv-loop μ-loop
 answer-mark-requires c κs = tt
 
 after-requires : tie.Need-after-requires Inv-loop μ-loop
-after-requires c κs = omega (arith, (c .before .before .line-end .ensures .0))
+after-requires c κs =
+    let line-end = c .before .before .line-end in
+    omega (arith, (line-end .ensures .0))
 
 image-end-requires : tie.Need-image-end-requires Inv-loop μ-loop
 image-end-requires c κs = omega arith
@@ -39,7 +41,9 @@ part-judge-end : tie.Need-part-judge-end Inv-loop μ-loop
 part-judge-end c = search needs
 
 sub-judge-2 : tie.Need-sub-judge-2 Inv-loop μ-loop
-sub-judge-2 c = omega (arith, (c .before .before .before .before .before .before .line-end .ensures .0))
+sub-judge-2 c =
+    let line-end = c .before .before .before .before .before .before .line-end in
+    omega (arith, (line-end .ensures .0))
 
 part-judge-start-2 : tie.Need-part-judge-start-2 Inv-loop μ-loop
 part-judge-start-2 c = search needs
@@ -51,16 +55,26 @@ judge-requires : tie.Need-judge-requires Inv-loop μ-loop
 judge-requires c κs = tt
 
 loop-less : tie.Need-loop-less Inv-loop μ-loop
-loop-less c = omega (arith, (c .before .before .before .before .before .after .ensures), (c .before .before .before .before .before .before .before .before .line-end .ensures .0))
+loop-less c =
+    let after = c .before .before .before .before .before .after in
+    let line-end = c .before .before .before .before .before .before .before .before .line-end in
+    omega (arith, (after .ensures), (line-end .ensures .0))
 
 loop-again : tie.Need-loop-again Inv-loop μ-loop
-loop-again c = (omega (arith, (c .before .before .before .before .before .after .ensures), (c .before .before .before .before .before .before .before .before .line-end .ensures .0)), omega (arith, (c .before .before .before .before .before .after .ensures), (c .before .before .before .before .before .before .before .before .line-end .ensures .0)))
+loop-again c =
+    let after = c .before .before .before .before .before .after in
+    let line-end = c .before .before .before .before .before .before .before .before .line-end in
+    (omega (arith, (after .ensures), (line-end .ensures .0)), omega (arith, (after .ensures), (line-end .ensures .0)))
 
 loop-less-2 : tie.Need-loop-less-2 Inv-loop μ-loop
-loop-less-2 c = omega (arith, (c .before .after .ensures), (c .before .before .before .before .line-end .ensures .0))
+loop-less-2 c =
+    let line-end = c .before .before .before .before .line-end in
+    omega (arith, (c .before .after .ensures), (line-end .ensures .0))
 
 loop-again-2 : tie.Need-loop-again-2 Inv-loop μ-loop
-loop-again-2 c = (omega (arith, (c .before .after .ensures), (c .before .before .before .before .line-end .ensures .0)), omega (arith, (c .before .after .ensures), (c .before .before .before .before .line-end .ensures .0)))
+loop-again-2 c =
+    let line-end = c .before .before .before .before .line-end in
+    (omega (arith, (c .before .after .ensures), (line-end .ensures .0)), omega (arith, (c .before .after .ensures), (line-end .ensures .0)))
 
 one-malformed-requires : tie.Need-one-malformed-requires Inv-loop μ-loop
 one-malformed-requires c κs = tt

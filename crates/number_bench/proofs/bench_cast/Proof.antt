@@ -39,19 +39,40 @@ value-or-requires-2 : tie.Need-value-or-requires-2 Inv-loop μ-loop
 value-or-requires-2 c κs = search needs
 
 add-i : tie.Need-add-i Inv-loop μ-loop
-add-i c = omega (arith, (c .before .before .before .before .loop-test .taken), (c .before .before .before .before .before .before .before .fits .n .fits))
+add-i c =
+    let loop-test = c .before .before .before .before .loop-test in
+    let fits = c .before .before .before .before .before .before .before .fits in
+    omega (arith, (loop-test .taken), (fits .n .fits))
 
 loop-less : tie.Need-loop-less Inv-loop μ-loop
-loop-less c = omega (arith, (c .before .before .before .before .loop-test .taken))
+loop-less c =
+    let loop-test = c .before .before .before .before .loop-test in
+    omega (arith, (loop-test .taken))
 
 loop-again : tie.Need-loop-again Inv-loop μ-loop
-loop-again c = (omega (arith, (c .before .before .before .before .loop-test .taken)), next-step _ (c .before .before .before .before .before .loop .i) _ (c .before .before .before .before .before .loop .acc) _ ((c .before .before .before .before .before .loop .inv) .1) (gone-and-back (c .before .before .before .before .before .loop .acc) (c .before .before .before .cast .ensures) (c .before .before .value-or .ensures) (c .before .cast2 .ensures) (c .value-or2 .ensures)))
+loop-again c =
+    let value-or = c .before .before .value-or in
+    let cast2 = c .before .before .before .cast in
+    let loop-test = c .before .before .before .before .loop-test in
+    let loop = c .before .before .before .before .before .loop in (
+      omega (arith, (loop-test .taken)),
+      next-step _ (loop .i) _ (loop .acc) _ ((loop .inv) .1) (gone-and-back (loop .acc) (cast2 .ensures) (value-or .ensures)
+          (c .before .cast2 .ensures) (c .value-or2 .ensures)),
+    )
 
 payload-of-requires : tie.Need-payload-of-requires Inv-loop μ-loop
 payload-of-requires c κs = search needs
 
 returns : tie.Need-returns Inv-loop μ-loop
-returns c = let e : (c .before .before .loop .i) ≡ (c .before .before .before .before .args .n) = omega (arith, (c .before .loop-test .left), (c .before .before .loop .inv) .0) in (e, all-cast (c .before .before .before .before .args .n) (c .before .before .loop .i) _ _ (c .before .before .loop .acc) (c .before .before .before .number .ensures) e ((c .before .before .loop .inv) .1) (c .payload-of .ensures))
+returns c =
+    let loop = c .before .before .loop in
+    let number2 = c .before .before .before .number in
+    let args = c .before .before .before .before .args in
+    let e : (loop .i) ≡ (args .n) = omega (arith, (c .before .loop-test .left), (loop .inv) .0) in (
+      e,
+      all-cast (args .n) (loop .i) _ _ (loop .acc)
+          (number2 .ensures) e ((loop .inv) .1) (c .payload-of .ensures),
+    )
 
 pub bench-cast-spec : {M : Type 1} → statement M
 bench-cast-spec =

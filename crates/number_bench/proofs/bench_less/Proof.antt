@@ -39,16 +39,38 @@ wrapping-add-u64-requires : tie.Need-wrapping-add-u64-requires Inv-loop μ-loop
 wrapping-add-u64-requires c κs = search needs
 
 add-i : tie.Need-add-i Inv-loop μ-loop
-add-i c = omega (arith, (c .before .before .before .before .loop-test .taken), (c .before .before .before .before .before .before .before .before .fits .n .fits))
+add-i c =
+    let loop-test = c .before .before .before .before .loop-test in
+    let fits = c .before .before .before .before .before .before .before .before .fits in
+    omega (arith, (loop-test .taken), (fits .n .fits))
 
 loop-less : tie.Need-loop-less Inv-loop μ-loop
-loop-less c = omega (arith, (c .before .before .before .before .loop-test .taken))
+loop-less c =
+    let loop-test = c .before .before .before .before .loop-test in
+    omega (arith, (loop-test .taken))
 
 loop-again : tie.Need-loop-again Inv-loop μ-loop
-loop-again c = (omega (arith, (c .before .before .before .before .loop-test .taken)), next-step _ (c .before .before .before .before .before .loop .i) _ (c .before .before .before .before .before .loop .acc) _ ((c .before .before .before .before .before .loop .inv) .1) (counted (c .before .before .before .before .before .before .before .before .args .kind) (c .before .before .before .before .before .before .number .result) (c .before .before .before .before .before .loop .acc) (c .before .before .before .number2 .ensures) (c .before .before .less .ensures) (c .before .pace .ensures) (c .wrapping-add-u64 .ensures)))
+loop-again c =
+    let less2 = c .before .before .less in
+    let number2 = c .before .before .before .number2 in
+    let loop-test = c .before .before .before .before .loop-test in
+    let loop = c .before .before .before .before .before .loop in
+    let number3 = c .before .before .before .before .before .before .number in
+    let args = c .before .before .before .before .before .before .before .before .args in (
+      omega (arith, (loop-test .taken)),
+      next-step _ (loop .i) _ (loop .acc) _ ((loop .inv) .1) (counted (args .kind) (number3 .result) (loop .acc)
+          (number2 .ensures) (less2 .ensures) (c .before .pace .ensures) (c .wrapping-add-u64 .ensures)),
+    )
 
 returns : tie.Need-returns Inv-loop μ-loop
-returns c = let e : (c .before .loop .i) ≡ (c .before .before .before .before .args .n) = omega (arith, (c .loop-test .left), (c .before .loop .inv) .0) in (e, all-counted (c .before .before .before .before .args .kind) (c .before .before .before .before .args .n) (c .before .loop .i) _ (c .before .loop .acc) (c .before .before .number .result) _ (c .before .before .number .ensures) e ((c .before .loop .inv) .1))
+returns c =
+    let number2 = c .before .before .number in
+    let args = c .before .before .before .before .args in
+    let e : (c .before .loop .i) ≡ (args .n) = omega (arith, (c .loop-test .left), (c .before .loop .inv) .0) in (
+      e,
+      all-counted (args .kind) (args .n)
+          (c .before .loop .i) _ (c .before .loop .acc) (number2 .result) _ (number2 .ensures) e ((c .before .loop .inv) .1),
+    )
 
 pub bench-less-spec : {M : Type 1} → statement M
 bench-less-spec =

@@ -17,10 +17,16 @@ enum-told : tie.Need-enum-told
 enum-told c = search needs
 
 returns : tie.Need-returns
-returns c = found-is (c .before .before .before .before .args .kind) (c .before .before .before .before .args .word) (c .before .before .before .number-of-payload .ensures) (c .before .x .given .1)
+returns c =
+    let number-of-payload = c .before .before .before .number-of-payload in
+    let args = c .before .before .before .before .args in
+    found-is (args .kind) (args .word) (number-of-payload .ensures) (c .before .x .given .1)
 
 returns-2 : tie.Need-returns-2
-returns-2 c = none-is (c .before .before .before .args .kind) (c .before .before .before .args .word) (c .before .before .number-of-payload .ensures) (c .enum-told .given .1)
+returns-2 c =
+    let number-of-payload = c .before .before .number-of-payload in
+    let args = c .before .before .before .args in
+    none-is (args .kind) (args .word) (number-of-payload .ensures) (c .enum-told .given .1)
 
 pub number-spec : {M : Type 1} → statement M
 number-spec =

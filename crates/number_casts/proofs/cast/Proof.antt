@@ -37,16 +37,38 @@ cast-from-float-requires-2 : tie.Need-cast-from-float-requires-2
 cast-from-float-requires-2 c κs = search needs
 
 returns : tie.Need-returns
-returns c = cast-uint (c .before .before .before .before .before .before .args .target) (c .before .before .before .k .given .0 .0) (valueOf (c .before .before .before .k .given .0 .1 .0)) (c .before .int-kind-code .ensures) (c .if1 .taken) ∙ cast-scalar (c .before .before .before .before .before .before .args .target) (c .before .before .before .before .before .before .args .a) (integer (c .before .before .before .k .given .0 .0) (valueOf (c .before .before .before .k .given .0 .1 .0))) (stands (c .before .before .before .before .before .before .args .a) (c .before .before .before .before .before .operand-of .result) (c .before .before .before .before .before .operand-of .ensures) (c .before .before .before .k .given .1))
+returns c =
+    let k = c .before .before .before .k in
+    let operand-of = c .before .before .before .before .before .operand-of in
+    let args = c .before .before .before .before .before .before .args in
+    cast-uint (args .target) (k .given .0 .0) (valueOf (k .given .0 .1 .0)) (c .before .int-kind-code .ensures) (c .if1 .taken) ∙ cast-scalar (args .target)
+    (args .a) (integer (k .given .0 .0) (valueOf (k .given .0 .1 .0))) (stands (args .a) (operand-of .result) (operand-of .ensures) (k .given .1))
 
 returns-2 : tie.Need-returns-2
-returns-2 c = (c .cast-from-integer .ensures) ∙ cast-castable (c .before .before .before .before .before .before .before .args .target) (c .before .before .before .before .k .given .0 .0) (valueOf (c .before .before .before .before .k .given .0 .1 .0)) (c .before .before .int-kind-code .ensures) (c .before .if1 .left) ∙ cast-scalar (c .before .before .before .before .before .before .before .args .target) (c .before .before .before .before .before .before .before .args .a) (integer (c .before .before .before .before .k .given .0 .0) (valueOf (c .before .before .before .before .k .given .0 .1 .0))) (stands (c .before .before .before .before .before .before .before .args .a) (c .before .before .before .before .before .before .operand-of .result) (c .before .before .before .before .before .before .operand-of .ensures) (c .before .before .before .before .k .given .1))
+returns-2 c =
+    let int-kind-code = c .before .before .int-kind-code in
+    let k = c .before .before .before .before .k in
+    let operand-of = c .before .before .before .before .before .before .operand-of in
+    let args = c .before .before .before .before .before .before .before .args in
+    (c .cast-from-integer .ensures) ∙ cast-castable (args .target) (k .given .0 .0) (valueOf (k .given .0 .1 .0)) (int-kind-code .ensures) (c .before .if1 .left)
+    ∙ cast-scalar (args .target) (args .a) (integer (k .given .0 .0) (valueOf (k .given .0 .1 .0))) (stands (args .a) (operand-of .result)
+    (operand-of .ensures) (k .given .1))
 
 returns-3 : tie.Need-returns-3
-returns-3 c = (c .cast-from-float .ensures) ∙ cast-scalar (c .before .before .before .before .before .args .target) (c .before .before .before .before .before .args .a) (double (c .before .before .x .given .0 .0)) (stands (c .before .before .before .before .before .args .a) (c .before .before .before .before .operand-of .result) (c .before .before .before .before .operand-of .ensures) (c .before .before .x .given .1))
+returns-3 c =
+    let x = c .before .before .x in
+    let operand-of = c .before .before .before .before .operand-of in
+    let args = c .before .before .before .before .before .args in
+    (c .cast-from-float .ensures) ∙ cast-scalar (args .target) (args .a) (double (x .given .0 .0)) (stands (args .a) (operand-of .result) (operand-of .ensures)
+    (x .given .1))
 
 returns-4 : tie.Need-returns-4
-returns-4 c = (c .cast-from-float2 .ensures) ∙ ap (λ (y : Float). castTo (c .before .before .before .before .before .before .args .target) (toSigned 127 y) y) (c .before .f32-to-f64-with-nan .ensures) ∙ cast-scalar (c .before .before .before .before .before .before .args .target) (c .before .before .before .before .before .before .args .a) (single (c .before .before .before .x2 .given .0 .0)) (stands (c .before .before .before .before .before .before .args .a) (c .before .before .before .before .before .operand-of .result) (c .before .before .before .before .before .operand-of .ensures) (c .before .before .before .x2 .given .1))
+returns-4 c =
+    let x2 = c .before .before .before .x2 in
+    let operand-of = c .before .before .before .before .before .operand-of in
+    let args = c .before .before .before .before .before .before .args in
+    (c .cast-from-float2 .ensures) ∙ ap (λ (y : Float). castTo (args .target) (toSigned 127 y) y) (c .before .f32-to-f64-with-nan .ensures) ∙
+    cast-scalar (args .target) (args .a) (single (x2 .given .0 .0)) (stands (args .a) (operand-of .result) (operand-of .ensures) (x2 .given .1))
 
 pub cast-spec : {M : Type 1} → statement M
 cast-spec =

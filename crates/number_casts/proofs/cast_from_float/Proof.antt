@@ -25,13 +25,21 @@ nearest-f64-to-f32-requires : tie.Need-nearest-f64-to-f32-requires
 nearest-f64-to-f32-requires c κs = search needs
 
 returns : tie.Need-returns
-returns c = (c .cast-truncated .ensures) ∙ sym (ap (λ (t : CastTarget). castTo t (toSigned 127 (c .before .before .before .before .args .x)) (c .before .before .before .before .args .x)) (c .before .before .target .given .1))
+returns c =
+    let target2 = c .before .before .target in
+    let args = c .before .before .before .before .args in
+    (c .cast-truncated .ensures) ∙ sym (ap (λ (t : CastTarget). castTo t (toSigned 127 (args .x)) (args .x)) (target2 .given .1))
 
 returns-2 : tie.Need-returns-2
-returns-2 c = sym (ap (λ (t : CastTarget). castTo t (toSigned 127 (c .before .before .args .x)) (c .before .before .args .x)) (c .enum-told .given .1))
+returns-2 c =
+    let args = c .before .before .args in
+    sym (ap (λ (t : CastTarget). castTo t (toSigned 127 (args .x)) (args .x)) (c .enum-told .given .1))
 
 returns-3 : tie.Need-returns-3
-returns-3 c = ap (λ (y : Float). Value (N.SFloat y)) (c .nearest-f64-to-f32 .ensures) ∙ sym (ap (λ (t : CastTarget). castTo t (toSigned 127 (c .before .before .before .args .x)) (c .before .before .before .args .x)) (c .before .enum-told2 .given .1))
+returns-3 c =
+    let args = c .before .before .before .args in
+    ap (λ (y : Float). Value (N.SFloat y)) (c .nearest-f64-to-f32 .ensures) ∙ sym (ap (λ (t : CastTarget). castTo t (toSigned 127 (args .x)) (args .x))
+    (c .before .enum-told2 .given .1))
 
 pub cast-from-float-spec : {M : Type 1} → statement M
 cast-from-float-spec =

@@ -33,13 +33,23 @@ nearest-f64-to-f32-requires : tie.Need-nearest-f64-to-f32-requires
 nearest-f64-to-f32-requires c κs = search needs
 
 returns : tie.Need-returns
-returns c = (c .cast-integer .ensures) ∙ sym (ap (λ (t : CastTarget). castTo t (valueOf (c .before .before .before .before .args .x)) (ofInt binary64 (valueOf (c .before .before .before .before .args .x)))) (c .before .before .target .given .1))
+returns c =
+    let target2 = c .before .before .target in
+    let args = c .before .before .before .before .args in
+    (c .cast-integer .ensures) ∙ sym (ap (λ (t : CastTarget). castTo t (valueOf (args .x)) (ofInt binary64 (valueOf (args .x)))) (target2 .given .1))
 
 returns-2 : tie.Need-returns-2
-returns-2 c = ap (λ (y : Float). Value (N.Float y)) (c .nearest-f64 .ensures) ∙ sym (ap (λ (t : CastTarget). castTo t (valueOf (c .before .before .before .args .x)) (ofInt binary64 (valueOf (c .before .before .before .args .x)))) (c .before .enum-told .given .1))
+returns-2 c =
+    let args = c .before .before .before .args in
+    ap (λ (y : Float). Value (N.Float y)) (c .nearest-f64 .ensures) ∙ sym (ap (λ (t : CastTarget). castTo t (valueOf (args .x)) (ofInt binary64
+    (valueOf (args .x)))) (c .before .enum-told .given .1))
 
 returns-3 : tie.Need-returns-3
-returns-3 c = ap (λ (y : Float). Value (N.SFloat y)) ((c .nearest-f64-to-f32 .ensures) ∙ ap nearestBinary32 (c .before .nearest-f642 .ensures)) ∙ sym (ap (λ (t : CastTarget). castTo t (valueOf (c .before .before .before .before .args .x)) (ofInt binary64 (valueOf (c .before .before .before .before .args .x)))) (c .before .before .enum-told2 .given .1))
+returns-3 c =
+    let enum-told2 = c .before .before .enum-told2 in
+    let args = c .before .before .before .before .args in
+    ap (λ (y : Float). Value (N.SFloat y)) ((c .nearest-f64-to-f32 .ensures) ∙ ap nearestBinary32 (c .before .nearest-f642 .ensures)) ∙ sym (ap (λ (t
+    : CastTarget). castTo t (valueOf (args .x)) (ofInt binary64 (valueOf (args .x)))) (enum-told2 .given .1))
 
 pub cast-from-integer-spec : {M : Type 1} → statement M
 cast-from-integer-spec =

@@ -14,7 +14,10 @@ cast-word-requires : tie.Need-cast-word-requires
 cast-word-requires c κs = search needs
 
 returns : tie.Need-returns
-returns c = (c .cast-word .ensures) (valueOf (c .before .before .before .args .x)) (c .before .word-of .ensures) (c .before .before .in-range .ensures)
+returns c =
+    let in-range = c .before .before .in-range in
+    let args = c .before .before .before .args in
+    (c .cast-word .ensures) (valueOf (args .x)) (c .before .word-of .ensures) (in-range .ensures)
 
 pub cast-integer-spec : {M : Type 1} → statement M
 cast-integer-spec =

@@ -16,13 +16,23 @@ number-of-word-requires-2 : tie.Need-number-of-word-requires-2
 number-of-word-requires-2 c κs = search needs
 
 returns : tie.Need-returns
-returns c = λ z e f. ap Value (c .number-of-word .ensures) ∙ cast-int (c .before .before .before .args .kind) z (c .before .before .before .args .w) e (c .before .before .int-kind-code .ensures) (c .before .if1 .taken)
+returns c =
+    let int-kind-code = c .before .before .int-kind-code in
+    let args = c .before .before .before .args in
+    λ z e f. ap Value (c .number-of-word .ensures) ∙ cast-int (args .kind) z (args .w) e (int-kind-code .ensures) (c .before .if1 .taken)
 
 returns-2 : tie.Need-returns-2
-returns-2 c = λ z e f. ap Value (c .number-of-word2 .ensures) ∙ cast-fits (c .before .before .before .before .args .kind) z (c .before .before .before .before .args .w) e (c .before .before .before .int-kind-code .ensures) (c .before .before .if1 .left) (sym f ∙ (c .before .if2 .taken))
+returns-2 c =
+    let if1 = c .before .before .if1 in
+    let int-kind-code = c .before .before .before .int-kind-code in
+    let args = c .before .before .before .before .args in
+    λ z e f. ap Value (c .number-of-word2 .ensures) ∙ cast-fits (args .kind) z (args .w) e (int-kind-code .ensures) (if1 .left) (sym f ∙ (c .before .if2 .taken))
 
 returns-3 : tie.Need-returns-3
-returns-3 c = λ z e f. cast-invalid (c .before .before .before .args .kind) z (c .before .before .before .args .w) e (c .before .before .int-kind-code .ensures) (c .before .if1 .left) (sym f ∙ (c .if2 .left))
+returns-3 c =
+    let int-kind-code = c .before .before .int-kind-code in
+    let args = c .before .before .before .args in
+    λ z e f. cast-invalid (args .kind) z (args .w) e (int-kind-code .ensures) (c .before .if1 .left) (sym f ∙ (c .if2 .left))
 
 pub cast-word-spec : {M : Type 1} → statement M
 cast-word-spec =

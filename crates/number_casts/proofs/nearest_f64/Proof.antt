@@ -14,13 +14,21 @@ nearest-u64-to-f64-requires-2 : tie.Need-nearest-u64-to-f64-requires-2
 nearest-u64-to-f64-requires-2 c κs = search needs
 
 returns : tie.Need-returns
-returns c = float-zero (c .before .before .args .x .magnitude) (c .if2 .taken) ∙ sym (ap (ofInt binary64) (value-neg (c .before .before .args .x) (c .before .if1 .taken)))
+returns c =
+    let args = c .before .before .args in
+    float-zero (args .x .magnitude) (c .if2 .taken) ∙ sym (ap (ofInt binary64) (value-neg (args .x) (c .before .if1 .taken)))
 
 returns-2 : tie.Need-returns-2
-returns-2 c = ap neg (c .nearest-u64-to-f64 .ensures) ∙ float-neg (c .before .before .before .args .x .magnitude) (c .before .if2 .left) ∙ sym (ap (ofInt binary64) (value-neg (c .before .before .before .args .x) (c .before .before .if1 .taken)))
+returns-2 c =
+    let if1 = c .before .before .if1 in
+    let args = c .before .before .before .args in
+    ap neg (c .nearest-u64-to-f64 .ensures) ∙ float-neg (args .x .magnitude) (c .before .if2 .left) ∙ sym (ap (ofInt binary64) (value-neg (args .x)
+    (if1 .taken)))
 
 returns-3 : tie.Need-returns-3
-returns-3 c = (c .nearest-u64-to-f642 .ensures) ∙ sym (ap (ofInt binary64) (value-pos (c .before .before .args .x) (c .before .if1 .left)))
+returns-3 c =
+    let args = c .before .before .args in
+    (c .nearest-u64-to-f642 .ensures) ∙ sym (ap (ofInt binary64) (value-pos (args .x) (c .before .if1 .left)))
 
 pub nearest-f64-spec : {M : Type 1} → statement M
 nearest-f64-spec =

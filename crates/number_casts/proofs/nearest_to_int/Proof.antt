@@ -28,10 +28,14 @@ nearest-u64-to-f64-requires-2 : tie.Need-nearest-u64-to-f64-requires-2
 nearest-u64-to-f64-requires-2 c κs = search needs
 
 returns : tie.Need-returns
-returns c = (c .nearest-u64-to-f64 .ensures) ∙ ap (ofInt binary64) ((positive _ _ (toZ-ofZ (c .before .before .fits .x)) (c .before .before .fits .x) (c .before .if1 .taken)) .is)
+returns c =
+    let fits = c .before .before .fits in
+    (c .nearest-u64-to-f64 .ensures) ∙ ap (ofInt binary64) ((positive _ _ (toZ-ofZ (fits .x)) (fits .x) (c .before .if1 .taken)) .is)
 
 returns-2 : tie.Need-returns-2
-returns-2 c = ap neg (c .nearest-u64-to-f642 .ensures) ∙ float-neg _ (λ e. omega arith) ∙ ap (ofInt binary64) ((negative _ _ (toZ-ofZ (c .before .before .fits .x)) (c .before .before .fits .x) (c .before .if1 .left)) .is)
+returns-2 c =
+    let fits = c .before .before .fits in
+    ap neg (c .nearest-u64-to-f642 .ensures) ∙ float-neg _ (λ e. omega arith) ∙ ap (ofInt binary64) ((negative _ _ (toZ-ofZ (fits .x)) (fits .x) (c .before .if1 .left)) .is)
 
 pub nearest-to-int-spec : {M : Type 1} → statement M
 nearest-to-int-spec =

@@ -74,7 +74,9 @@ unfolding castTargetOf
 returns-10 c = sym (ap castTargetOf (c .match .keys10))
 
 returns-11 : tie.Need-returns-11
-returns-11 c = past (c .before .args .number) (from-ten (c .before .args .number) (from-five (c .before .args .number) (c .match .rest .0 .0 .0 .0 .0 .0 .0 .0 .0 .1) (c .match .rest .0 .0 .0 .0 .0 .0 .0 .0 .1) (c .match .rest .0 .0 .0 .0 .0 .0 .0 .1) (c .match .rest .0 .0 .0 .0 .0 .0 .1) (c .match .rest .0 .0 .0 .0 .0 .1)) (c .match .rest .0 .0 .0 .0 .1) (c .match .rest .0 .0 .0 .1) (c .match .rest .0 .0 .1) (c .match .rest .0 .1) (c .match .rest .1))
+returns-11 c = past (c .before .args .number) (from-ten (c .before .args .number) (from-five (c .before .args .number) (c .match .rest .0 .0 .0 .0 .0 .0 .0 .0 .0 .1)
+    (c .match .rest .0 .0 .0 .0 .0 .0 .0 .0 .1) (c .match .rest .0 .0 .0 .0 .0 .0 .0 .1) (c .match .rest .0 .0 .0 .0 .0 .0 .1) (c .match .rest .0 .0 .0 .0 .0 .1))
+    (c .match .rest .0 .0 .0 .0 .1) (c .match .rest .0 .0 .0 .1) (c .match .rest .0 .0 .1) (c .match .rest .0 .1) (c .match .rest .1))
 
 pub cast-target-spec : {M : Type 1} → statement M
 cast-target-spec =

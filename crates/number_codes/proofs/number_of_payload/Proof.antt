@@ -30,13 +30,19 @@ enum-told c = search needs
 
 returns : tie.Need-returns
 returns c =
-    let args = c .before .before .before .before .before .args in
-    at (args .code) (args .w) (c .before .before .before .before .value-at .ensures .0) (c .before .before .before .number-of .ensures) (c .before .n .given .1)
+    let number-of = c .before .before .before .number-of in
+    let value-at = c .before .before .before .before .value-at in
+    let args2 = c .before .before .before .before .before .args in
+    let args = args2 in
+    at (args .code) (args .w) (value-at .ensures .0) (number-of .ensures) (c .before .n .given .1)
 
 returns-2 : tie.Need-returns-2
 returns-2 c =
-    let args = c .before .before .before .before .args in
-    at (args .code) (args .w) (c .before .before .before .value-at .ensures .0) (c .before .before .number-of .ensures) (c .enum-told .given .1)
+    let number-of = c .before .before .number-of in
+    let value-at = c .before .before .before .value-at in
+    let args2 = c .before .before .before .before .args in
+    let args = args2 in
+    at (args .code) (args .w) (value-at .ensures .0) (number-of .ensures) (c .enum-told .given .1)
 
 pub number-of-payload-spec : {M : Type 1} → statement M
 number-of-payload-spec = tie.close (tie.spec value-at-requires number-of-requires enum-known-n enum-told returns returns-2)

@@ -31,16 +31,27 @@ enum-told : tie.Need-enum-told
 enum-told c = search needs
 
 returns : tie.Need-returns
-returns c = (c .compare-integers .ensures) ∙ ap pairOrder (sym (ap operandPair (c .before .before .p .given .1)) ∙ (c .before .before .before .before .pair-of .ensures))
+returns c =
+    let p = c .before .before .p in
+    let pair-of = c .before .before .before .before .pair-of in
+    (c .compare-integers .ensures) ∙ ap pairOrder (sym (ap operandPair (p .given .1)) ∙ (pair-of .ensures))
 
 returns-2 : tie.Need-returns-2
-returns-2 c = (c .compare-f64 .ensures) ∙ ap pairOrder (sym (ap operandPair (c .before .before .p2 .given .1)) ∙ (c .before .before .before .before .pair-of .ensures))
+returns-2 c =
+    let p2 = c .before .before .p2 in
+    let pair-of = c .before .before .before .before .pair-of in
+    (c .compare-f64 .ensures) ∙ ap pairOrder (sym (ap operandPair (p2 .given .1)) ∙ (pair-of .ensures))
 
 returns-3 : tie.Need-returns-3
-returns-3 c = (c .compare-f32 .ensures) ∙ ap pairOrder (sym (ap operandPair (c .before .before .p3 .given .1)) ∙ (c .before .before .before .before .pair-of .ensures))
+returns-3 c =
+    let p3 = c .before .before .p3 in
+    let pair-of = c .before .before .before .before .pair-of in
+    (c .compare-f32 .ensures) ∙ ap pairOrder (sym (ap operandPair (p3 .given .1)) ∙ (pair-of .ensures))
 
 returns-4 : tie.Need-returns-4
-returns-4 c = ap pairOrder (sym (ap operandPair (c .enum-told .given .1)) ∙ (c .before .before .pair-of .ensures))
+returns-4 c =
+    let pair-of = c .before .before .pair-of in
+    ap pairOrder (sym (ap operandPair (c .enum-told .given .1)) ∙ (pair-of .ensures))
 
 pub compare-any-spec : {M : Type 1} → statement M
 compare-any-spec =

@@ -13,11 +13,15 @@ returns-2 c = simp ((c .before .if1 .left), (c .if2 .taken))
 
 returns-3 : tie.Need-returns-3
 unfolding floatOrder
-returns-3 c = simp ((c .before .before .if1 .left), (c .before .if2 .left), (c .if3 .taken))
+returns-3 c =
+    let if1 = c .before .before .if1 in
+    simp ((if1 .left), (c .before .if2 .left), (c .if3 .taken))
 
 returns-4 : tie.Need-returns-4
 unfolding floatOrder
-returns-4 c = simp ((c .before .before .if1 .left), (c .before .if2 .left), (c .if3 .left))
+returns-4 c =
+    let if1 = c .before .before .if1 in
+    simp ((if1 .left), (c .before .if2 .left), (c .if3 .left))
 
 pub compare-f64-spec : {M : Type 1} → statement M
 compare-f64-spec = tie.close (tie.spec returns returns-2 returns-3 returns-4)

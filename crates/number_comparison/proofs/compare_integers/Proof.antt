@@ -13,13 +13,23 @@ is-below-requires-2 : tie.Need-is-below-requires-2
 is-below-requires-2 c κs = search needs
 
 returns : tie.Need-returns
-returns c = order-less (valueOf (c .before .before .args .a)) (valueOf (c .before .before .args .b)) (sym (c .before .is-below .ensures) ∙ (c .if1 .taken))
+returns c =
+    let args = c .before .before .args in
+    order-less (valueOf (args .a)) (valueOf (args .b)) (sym (c .before .is-below .ensures) ∙ (c .if1 .taken))
 
 returns-2 : tie.Need-returns-2
-returns-2 c = order-greater (valueOf (c .before .before .before .before .args .a)) (valueOf (c .before .before .before .before .args .b)) (sym (c .before .before .before .is-below .ensures) ∙ (c .before .before .if1 .left)) (sym (c .before .is-below2 .ensures) ∙ (c .if2 .taken))
+returns-2 c =
+    let if1 = c .before .before .if1 in
+    let is-below = c .before .before .before .is-below in
+    let args = c .before .before .before .before .args in
+    order-greater (valueOf (args .a)) (valueOf (args .b)) (sym (is-below .ensures) ∙ (if1 .left)) (sym (c .before .is-below2 .ensures) ∙ (c .if2 .taken))
 
 returns-3 : tie.Need-returns-3
-returns-3 c = order-equal (valueOf (c .before .before .before .before .args .a)) (valueOf (c .before .before .before .before .args .b)) (sym (c .before .before .before .is-below .ensures) ∙ (c .before .before .if1 .left)) (sym (c .before .is-below2 .ensures) ∙ (c .if2 .left))
+returns-3 c =
+    let if1 = c .before .before .if1 in
+    let is-below = c .before .before .before .is-below in
+    let args = c .before .before .before .before .args in
+    order-equal (valueOf (args .a)) (valueOf (args .b)) (sym (is-below .ensures) ∙ (if1 .left)) (sym (c .before .is-below2 .ensures) ∙ (c .if2 .left))
 
 pub compare-integers-spec : {M : Type 1} → statement M
 compare-integers-spec =

@@ -21,13 +21,19 @@ enum-told-5 : tie.Need-enum-told-5
 enum-told-5 c = search needs
 
 returns : tie.Need-returns
-returns c = sym (ap (comparisonOf (c .before .before .args .l) (c .before .before .args .e) (c .before .before .args .g)) (c .enum-told .given .1))
+returns c =
+    let args = c .before .before .args in
+    sym (ap (comparisonOf (args .l) (args .e) (args .g)) (c .enum-told .given .1))
 
 returns-2 : tie.Need-returns-2
-returns-2 c = sym (ap (comparisonOf (c .before .before .args .l) (c .before .before .args .e) (c .before .before .args .g)) (c .enum-told2 .given .1))
+returns-2 c =
+    let args = c .before .before .args in
+    sym (ap (comparisonOf (args .l) (args .e) (args .g)) (c .enum-told2 .given .1))
 
 returns-3 : tie.Need-returns-3
-returns-3 c = sym (ap (comparisonOf (c .before .before .args .l) (c .before .before .args .e) (c .before .before .args .g)) (c .enum-told3 .given .1))
+returns-3 c =
+    let args = c .before .before .args in
+    sym (ap (comparisonOf (args .l) (args .e) (args .g)) (c .enum-told3 .given .1))
 
 returns-4 : tie.Need-returns-4
 returns-4 c = search needs

@@ -6,19 +6,31 @@ use Rattle.number_comparison.proofs.is_below.Statement.{statement}
 use Rattle.number_comparison.proofs.is_below.Tie as tie
 
 returns : tie.Need-returns
-returns c = lt-nn (c .before .before .args .a .magnitude) (c .before .before .args .b .magnitude) ∙ under (value-neg (c .before .before .args .a) (c .before .if1 .taken)) (value-neg (c .before .before .args .b) (c .if2 .taken))
+returns c =
+    let args = c .before .before .args in
+    lt-nn (args .a .magnitude) (args .b .magnitude) ∙ under (value-neg (args .a) (c .before .if1 .taken)) (value-neg (args .b) (c .if2 .taken))
 
 returns-2 : tie.Need-returns-2
-returns-2 c = lt-np (c .before .before .before .args .a .magnitude) (c .before .before .before .args .b .magnitude) (c .if3 .taken) ∙ under (value-neg (c .before .before .before .args .a) (c .before .before .if1 .taken)) (value-pos (c .before .before .before .args .b) (c .before .if2 .left))
+returns-2 c =
+    let if1 = c .before .before .if1 in
+    let args = c .before .before .before .args in
+    lt-np (args .a .magnitude) (args .b .magnitude) (c .if3 .taken) ∙ under (value-neg (args .a) (if1 .taken)) (value-pos (args .b) (c .before .if2 .left))
 
 returns-3 : tie.Need-returns-3
-returns-3 c = lt-0p (c .before .before .before .args .a .magnitude) (c .before .before .before .args .b .magnitude) (c .if3 .left) ∙ under (value-neg (c .before .before .before .args .a) (c .before .before .if1 .taken)) (value-pos (c .before .before .before .args .b) (c .before .if2 .left))
+returns-3 c =
+    let if1 = c .before .before .if1 in
+    let args = c .before .before .before .args in
+    lt-0p (args .a .magnitude) (args .b .magnitude) (c .if3 .left) ∙ under (value-neg (args .a) (if1 .taken)) (value-pos (args .b) (c .before .if2 .left))
 
 returns-4 : tie.Need-returns-4
-returns-4 c = lt-pn (c .before .before .args .a .magnitude) (c .before .before .args .b .magnitude) ∙ under (value-pos (c .before .before .args .a) (c .before .if1 .left)) (value-neg (c .before .before .args .b) (c .if4 .taken))
+returns-4 c =
+    let args = c .before .before .args in
+    lt-pn (args .a .magnitude) (args .b .magnitude) ∙ under (value-pos (args .a) (c .before .if1 .left)) (value-neg (args .b) (c .if4 .taken))
 
 returns-5 : tie.Need-returns-5
-returns-5 c = under (value-pos (c .before .before .args .a) (c .before .if1 .left)) (value-pos (c .before .before .args .b) (c .if4 .left))
+returns-5 c =
+    let args = c .before .before .args in
+    under (value-pos (args .a) (c .before .if1 .left)) (value-pos (args .b) (c .if4 .left))
 
 pub is-below-spec : {M : Type 1} → statement M
 is-below-spec = tie.close (tie.spec returns returns-2 returns-3 returns-4 returns-5)

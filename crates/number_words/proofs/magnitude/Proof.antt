@@ -13,18 +13,22 @@ sub-result : tie.Need-sub-result
 sub-result c = search needs
 
 returns : tie.Need-returns
-returns c = (
-  down-from-zero (c .before .before .before .args .x) (c .before .before .before .args .n .negatives) _ (c .before .if1 .taken) refl
-      ∙ sym (ap (λ (s : Bool). signed s ((c .before .before .before .args .n .negatives) - (c .before .before .before .args .x))) (lt-ltb _ _ (c .before .if1 .taken))),
-  omega (arith, (c .before .before .before .pre .0 .1 .negatives), (c .before .before .before .pre .0 .1 .numbers), (c .before .before .before .pre .0 .1 .few), (c .before .if1 .taken)),
-)
+returns c =
+    let args = c .before .before .before .args in
+    let pre = c .before .before .before .pre in (
+      down-from-zero (args .x) (args .n .negatives) _ (c .before .if1 .taken) refl
+          ∙ sym (ap (λ (s : Bool). signed s ((args .n .negatives) - (args .x))) (lt-ltb _ _ (c .before .if1 .taken))),
+      omega (arith, (pre .0 .1 .negatives), (pre .0 .1 .numbers), (pre .0 .1 .few), (c .before .if1 .taken)),
+    )
 
 returns-2 : tie.Need-returns-2
-returns-2 c = (
-  up-from-zero (c .before .before .before .args .x) (c .before .before .before .args .n .negatives) _ (c .before .if1 .left) refl
-      ∙ sym (ap (λ (s : Bool). signed s ((c .before .before .before .args .x) - (c .before .before .before .args .n .negatives))) (le-ltb _ _ (c .before .if1 .left))),
-  omega (arith, (c .before .before .before .pre .0 .1 .few), (c .before .before .before .pre .1)),
-)
+returns-2 c =
+    let args = c .before .before .before .args in
+    let pre = c .before .before .before .pre in (
+      up-from-zero (args .x) (args .n .negatives) _ (c .before .if1 .left) refl
+          ∙ sym (ap (λ (s : Bool). signed s ((args .x) - (args .n .negatives))) (le-ltb _ _ (c .before .if1 .left))),
+      omega (arith, (pre .0 .1 .few), (pre .1)),
+    )
 
 pub magnitude-spec : {M : Type 1} → statement M
 magnitude-spec = tie.close (tie.spec sub-result returns returns-2)

@@ -21,13 +21,19 @@ div-if2 : tie.Need-div-if2
 div-if2 c = search needs
 
 mul-t6 : tie.Need-mul-t6
-mul-t6 c = record { fits = product-fits (c .before .before .args .p) (c .before .before .args .q) (positive (c .before .before .args .p) (c .before .if1 .left)) (c .if2 .taken) }
+mul-t6 c =
+    let args = c .before .before .args in
+    record { fits = product-fits (args .p) (args .q) (positive (args .p) (c .before .if1 .left)) (c .if2 .taken) }
 
 returns-2 : tie.Need-returns-2
-returns-2 c = wide-value ((c .before .before .args .p) * (c .before .before .args .q)) (product-fits (c .before .before .args .p) (c .before .before .args .q) (positive (c .before .before .args .p) (c .before .if1 .left)) (c .if2 .taken))
+returns-2 c =
+    let args = c .before .before .args in
+    wide-value ((args .p) * (args .q)) (product-fits (args .p) (args .q) (positive (args .p) (c .before .if1 .left)) (c .if2 .taken))
 
 returns-3 : tie.Need-returns-3
-returns-3 c = sym (beyond U64 false ((c .before .before .args .p) * (c .before .before .args .q)) (product-past (c .before .before .args .p) (c .before .before .args .q) (positive (c .before .before .args .p) (c .before .if1 .left)) (c .if2 .left)))
+returns-3 c =
+    let args = c .before .before .args in
+    sym (beyond U64 false ((args .p) * (args .q)) (product-past (args .p) (args .q) (positive (args .p) (c .before .if1 .left)) (c .if2 .left)))
 
 pub mul-u64-spec : {M : Type 1} → statement M
 mul-u64-spec = tie.close (tie.spec returns div-if2 mul-t6 returns-2 returns-3)

@@ -55,4 +55,5 @@ returns-7 : tie.Need-returns-7
 returns-7 c = let n = c .before .match .rest in c .without-sign4 .ensures ∙ no-kind (n .0 .0 .0 .0 .0 .1) (n .0 .0 .0 .0 .1) (n .0 .0 .0 .1) (n .0 .0 .1) (n .0 .1) (n .1)
 
 pub narrow-kind-spec : {M : Type 1} → statement M
-narrow-kind-spec = tie.close (tie.spec with-sign-requires without-sign-requires without-sign-requires-2 with-sign-requires-2 without-sign-requires-3 with-sign-requires-3 without-sign-requires-4 returns returns-2 returns-3 returns-4 returns-5 returns-6 returns-7)
+narrow-kind-spec = tie.close (tie.spec with-sign-requires without-sign-requires without-sign-requires-2 with-sign-requires-2 without-sign-requires-3
+    with-sign-requires-3 without-sign-requires-4 returns returns-2 returns-3 returns-4 returns-5 returns-6 returns-7)

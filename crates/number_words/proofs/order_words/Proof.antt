@@ -13,13 +13,32 @@ turned-requires-2 : tie.Need-turned-requires-2
 turned-requires-2 c κs = ((c .before .pre .0), (c .before .pre .2))
 
 returns : tie.Need-returns
-returns c = λ k i. order-less _ _ (less-is k (c .before .before .before .args .n) (c .before .before .before .args .p) (c .before .before .before .args .q) (c .before .before .turned .result) (c .before .turned2 .result) i (c .before .before .before .pre .1) (c .before .before .before .pre .2) (c .before .before .turned .ensures .0) (c .before .turned2 .ensures .0) ∙ lt-ltb _ _ (c .if1 .taken))
+returns c =
+    let turned = c .before .before .turned in
+    let args = c .before .before .before .args in
+    let pre = c .before .before .before .pre in
+    λ k i. order-less _ _ (less-is k (args .n) (args .p) (args .q) (turned .result) (c .before .turned2 .result) i (pre .1) (pre .2) (turned .ensures .0)
+    (c .before .turned2 .ensures .0) ∙ lt-ltb _ _ (c .if1 .taken))
 
 returns-2 : tie.Need-returns-2
-returns-2 c = λ k i. order-greater _ _ (less-is k (c .before .before .before .before .args .n) (c .before .before .before .before .args .p) (c .before .before .before .before .args .q) (c .before .before .before .turned .result) (c .before .before .turned2 .result) i (c .before .before .before .before .pre .1) (c .before .before .before .before .pre .2) (c .before .before .before .turned .ensures .0) (c .before .before .turned2 .ensures .0) ∙ le-ltb _ _ (c .before .if1 .left)) (less-is k (c .before .before .before .before .args .n) (c .before .before .before .before .args .q) (c .before .before .before .before .args .p) (c .before .before .turned2 .result) (c .before .before .before .turned .result) i (c .before .before .before .before .pre .2) (c .before .before .before .before .pre .1) (c .before .before .turned2 .ensures .0) (c .before .before .before .turned .ensures .0) ∙ lt-ltb _ _ (c .if2 .taken))
+returns-2 c =
+    let turned2 = c .before .before .turned2 in
+    let turned = c .before .before .before .turned in
+    let args = c .before .before .before .before .args in
+    let pre = c .before .before .before .before .pre in
+    λ k i. order-greater _ _ (less-is k (args .n) (args .p) (args .q) (turned .result) (turned2 .result) i (pre .1) (pre .2) (turned .ensures .0)
+    (turned2 .ensures .0) ∙ le-ltb _ _ (c .before .if1 .left)) (less-is k (args .n) (args .q) (args .p) (turned2 .result) (turned .result) i (pre .2)
+    (pre .1) (turned2 .ensures .0) (turned .ensures .0) ∙ lt-ltb _ _ (c .if2 .taken))
 
 returns-3 : tie.Need-returns-3
-returns-3 c = λ k i. order-equal _ _ (less-is k (c .before .before .before .before .args .n) (c .before .before .before .before .args .p) (c .before .before .before .before .args .q) (c .before .before .before .turned .result) (c .before .before .turned2 .result) i (c .before .before .before .before .pre .1) (c .before .before .before .before .pre .2) (c .before .before .before .turned .ensures .0) (c .before .before .turned2 .ensures .0) ∙ le-ltb _ _ (c .before .if1 .left)) (less-is k (c .before .before .before .before .args .n) (c .before .before .before .before .args .q) (c .before .before .before .before .args .p) (c .before .before .turned2 .result) (c .before .before .before .turned .result) i (c .before .before .before .before .pre .2) (c .before .before .before .before .pre .1) (c .before .before .turned2 .ensures .0) (c .before .before .before .turned .ensures .0) ∙ le-ltb _ _ (c .if2 .left))
+returns-3 c =
+    let turned2 = c .before .before .turned2 in
+    let turned = c .before .before .before .turned in
+    let args = c .before .before .before .before .args in
+    let pre = c .before .before .before .before .pre in
+    λ k i. order-equal _ _ (less-is k (args .n) (args .p) (args .q) (turned .result) (turned2 .result) i (pre .1) (pre .2) (turned .ensures .0)
+    (turned2 .ensures .0) ∙ le-ltb _ _ (c .before .if1 .left)) (less-is k (args .n) (args .q) (args .p) (turned2 .result) (turned .result) i (pre .2)
+    (pre .1) (turned2 .ensures .0) (turned .ensures .0) ∙ le-ltb _ _ (c .if2 .left))
 
 pub order-words-spec : {M : Type 1} → statement M
 order-words-spec =

@@ -9,7 +9,8 @@ use Rattle.number_words.proofs.sub_u64.Statement.{statement}
 use Rattle.number_words.proofs.sub_u64.Tie as tie
 
 returns : tie.Need-returns
-returns c = wide-value ((c .before .args .p) - (c .before .args .q)) (omega (arith, (c .before .fits .p .fits))) ∙ ap (checked U64) (wide-difference (c .before .args .p) (c .before .args .q) (c .if1 .taken))
+returns c = wide-value ((c .before .args .p) - (c .before .args .q)) (omega (arith, (c .before .fits .p .fits))) ∙ ap (checked U64) (wide-difference
+    (c .before .args .p) (c .before .args .q) (c .if1 .taken))
 
 returns-2 : tie.Need-returns-2
 returns-2 c = wide-less (c .before .args .p) (c .before .args .q) (c .if1 .left)

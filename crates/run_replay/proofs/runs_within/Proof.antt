@@ -8,7 +8,9 @@ slice-relend-prefix-runs-as : tie.Need-slice-relend-prefix-runs-as
 slice-relend-prefix-runs-as c = search needs
 
 slice-aggregate-runs-as : tie.Need-slice-aggregate-runs-as
-slice-aggregate-runs-as c = sym (length-take-le (c .before .before .before .before .before .args .room) (c .before .before .before .before .before .args .result .now) (c .before .if1 .taken))
+slice-aggregate-runs-as c =
+    let args = c .before .before .before .before .before .args in
+    sym (length-take-le (args .room) (args .result .now) (c .before .if1 .taken))
 
 runs-as-requires : tie.Need-runs-as-requires
 runs-as-requires c κs = search needs

@@ -16,10 +16,14 @@ enum-told : tie.Need-enum-told
 enum-told c = search needs
 
 returns : tie.Need-returns
-returns c = let x = back-to _ _ _ (sym (c .before .before .before .jump-back .ensures) ∙ (c .before .c .given .1)) in x .1
+returns c =
+    let jump-back = c .before .before .before .jump-back in
+    let x = back-to _ _ _ (sym (jump-back .ensures) ∙ (c .before .c .given .1)) in x .1
 
 returns-2 : tie.Need-returns-2
-returns-2 c = before-start (back-before _ _ (sym (c .before .before .jump-back .ensures) ∙ (c .enum-told .given .1)))
+returns-2 c =
+    let jump-back = c .before .before .jump-back in
+    before-start (back-before _ _ (sym (jump-back .ensures) ∙ (c .enum-told .given .1)))
 
 pub back-spec : {M : Type 1} → statement M
 back-spec = tie.close (tie.spec jump-back-requires enum-known-c enum-told returns returns-2)

@@ -27,7 +27,20 @@ same-length-3 : tie.Need-same-length-3
 same-length-3 c = search needs
 
 returns : tie.Need-returns
-returns c = (λ k e q. answer-for k (c .before .before .before .before .before .before .before .before .before .before .before .before .before .before .before .before .before .before .before .before .before .before .before .before .before .before .before .args .code .now) (c .before .before .before .before .before .before .before .before .before .before .before .before .before .before .before .before .before .before .before .before .before .before .before .before .before .before .before .args .kinds .now) (c .before .before .before .before .before .before .before .before .before .before .before .before .before .before .before .before .before .before .judge .result) (sym e) (sym q) (c .before .before .before .before .before .before .before .before .before .before .before .before .before .before .before .before .before .before .judge .ensures), ((c .before .before .before .before .before .before .before .before .before .before .clear-usize .ensures), (c .before .before .before .before .before .before .clear-usize2 .ensures), (c .before .before .clear-usize3 .ensures)))
+returns c =
+    let clear-usize3 = c .before .before .clear-usize3 in
+    let clear-usize2 = c .before .before .before .before .before .before .clear-usize2 in
+    let clear-usize = c .before .before .before .before .before .before .before .before .before .before .clear-usize in
+    let judge = c .before .before .before .before .before .before .before .before .before .before .before .before .before .before .before .before .before .before .judge in
+    let args = c .before .before .before .before .before .before .before .before .before .before .before .before .before .before .before .before .before .before .before .before .before .before .before .before .before .before .before .args
+    in (
+      λ k e q. answer-for k (args .code .now) (args .kinds .now) (judge .result) (sym e) (sym q) (judge .ensures),
+      (
+        (clear-usize .ensures),
+        (clear-usize2 .ensures),
+        (clear-usize3 .ensures),
+      ),
+    )
 
 pub check-chunk-spec : {M : Type 1} → statement M
 check-chunk-spec =

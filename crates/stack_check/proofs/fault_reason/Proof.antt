@@ -20,10 +20,18 @@ enum-told : tie.Need-enum-told
 enum-told c = search needs
 
 returns : tie.Need-returns
-returns c = (c .reason-of .ensures) ∙ fault-number ((c .before .before .before .before .inspect .ensures) (chunkOf (c .before .before .before .before .before .before .before .args .code .now) (c .before .before .before .before .before .before .before .args .kinds .now)) refl (kinds-back (c .before .before .before .before .before .before .before .args .kinds .now))) (c .before .before .f .given .1)
+returns c =
+    let f = c .before .before .f in
+    let inspect = c .before .before .before .before .inspect in
+    let args = c .before .before .before .before .before .before .before .args in
+    (c .reason-of .ensures) ∙ fault-number ((inspect .ensures) (chunkOf (args .code .now) (args .kinds .now)) refl (kinds-back (args .kinds .now))) (f .given .1)
 
 returns-2 : tie.Need-returns-2
-returns-2 c = absurd ((c .before .before .before .before .before .pre) (is-clean ((c .before .before .inspect .ensures) (chunkOf (c .before .before .before .before .before .args .code .now) (c .before .before .before .before .before .args .kinds .now)) refl (kinds-back (c .before .before .before .before .before .args .kinds .now))) (c .enum-told .given .1)))
+returns-2 c =
+    let inspect = c .before .before .inspect in
+    let args = c .before .before .before .before .before .args in
+    let pre = c .before .before .before .before .before .pre in
+    absurd (pre (is-clean ((inspect .ensures) (chunkOf (args .code .now) (args .kinds .now)) refl (kinds-back (args .kinds .now))) (c .enum-told .given .1)))
 
 pub fault-reason-spec : {M : Type 1} → statement M
 fault-reason-spec =

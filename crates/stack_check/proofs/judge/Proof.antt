@@ -11,76 +11,150 @@ use Rattle.stack_check.specs.Progress.{Progress}
 use Rattle.stack_check.proofs.Theory.{positive, progress-begun, falls, empty-passes, end-fault, no-fault, end-wrong, end-right}
 
 abbrev Inv-loop : tie.InvT-loop
-Inv-loop code kinds heights₀ depths₀ todo₀ n s₀ heights depths todo s = Progress (chunkOf code kinds) heights depths todo s × (length heights ≡ length heights₀) × (length depths ≡ length depths₀) × (length todo ≡ length todo₀)
+Inv-loop code kinds heights₀ depths₀ todo₀ n s₀ heights depths todo s = Progress (chunkOf code kinds) heights depths todo s × (length heights ≡ length
+    heights₀) × (length depths ≡ length depths₀) × (length todo ≡ length todo₀)
 
 abbrev μ-loop : tie.MeasureT-loop
 μ-loop code kinds heights₀ depths₀ todo₀ n s₀ heights depths todo s = length heights - s .head
 
 returns : tie.Need-returns Inv-loop μ-loop
-returns c = let x = empty-passes (chunkOf (c .before .before .before .before .before .before .args .code .now) (c .before .before .before .before .before .before .args .kinds .now)) (c .if1 .taken) in passes (chunkOf (c .before .before .before .before .before .before .args .code .now) (c .before .before .before .before .before .before .args .kinds .now)) (x .0) (x .1 .0) (x .1 .1) (x .1 .2)
+returns c =
+    let args = c .before .before .before .before .before .before .args in
+    let x = empty-passes (chunkOf (args .code .now) (args .kinds .now)) (c .if1 .taken) in passes (chunkOf (args .code .now) (args .kinds .now)) (x .0)
+    (x .1 .0) (x .1 .1) (x .1 .2)
 
 clear-usize-requires : tie.Need-clear-usize-requires Inv-loop μ-loop
 clear-usize-requires c κs = tt
 
 slice-write-heights : tie.Need-slice-write-heights Inv-loop μ-loop
-slice-write-heights c = omega (arith, positive _ (c .before .before .before .before .if1 .left), (c .before .before .clear-usize .kept .0), (c .before .before .before .before .before .before .before .before .before .before .pre) .heights)
+slice-write-heights c =
+    let clear-usize = c .before .before .clear-usize in
+    let if1 = c .before .before .before .before .if1 in
+    let pre = c .before .before .before .before .before .before .before .before .before .before .pre in
+    omega (arith, positive _ (if1 .left), (clear-usize .kept .0), pre .heights)
 
 slice-write-depths : tie.Need-slice-write-depths Inv-loop μ-loop
-slice-write-depths c = omega (arith, positive _ (c .before .before .before .before .if1 .left), (c .before .before .clear-usize .kept .0), (c .before .before .before .before .before .before .before .before .before .before .pre) .heights, (c .before .before .before .before .before .before .before .before .before .before .pre) .depths)
+slice-write-depths c =
+    let clear-usize = c .before .before .clear-usize in
+    let if1 = c .before .before .before .before .if1 in
+    let pre = c .before .before .before .before .before .before .before .before .before .before .pre in
+    omega (arith, positive _ (if1 .left), (clear-usize .kept .0), pre .heights, pre .depths)
 
 slice-write-todo : tie.Need-slice-write-todo Inv-loop μ-loop
-slice-write-todo c = omega (arith, positive _ (c .before .before .before .before .if1 .left), (c .before .before .clear-usize .kept .0), (c .before .before .before .before .before .before .before .before .before .before .pre) .heights, (c .before .before .before .before .before .before .before .before .before .before .pre) .todo)
+slice-write-todo c =
+    let clear-usize = c .before .before .clear-usize in
+    let if1 = c .before .before .before .before .if1 in
+    let pre = c .before .before .before .before .before .before .before .before .before .before .pre in
+    omega (arith, positive _ (if1 .left), (clear-usize .kept .0), pre .heights, pre .todo)
 
 loop-holds : tie.Need-loop-holds Inv-loop μ-loop
-loop-holds c = (progress-begun (chunkOf (c .before .before .before .before .before .before .before .before .before .before .args .code .now) (c .before .before .before .before .before .before .before .before .before .before .args .kinds .now)) (c .before .before .before .before .before .before .before .before .before .before .args .heights .now) (c .before .before .clear-usize .last .0) (c .before .before .before .before .before .before .before .before .before .before .args .depths .now) (c .before .before .before .before .before .before .before .before .before .before .args .todo .now) (positive _ (c .before .before .before .before .if1 .left)) (c .before .before .clear-usize .kept .0) ((c .before .before .before .before .before .before .before .before .before .before .pre) .heights) ((c .before .before .before .before .before .before .before .before .before .before .pre) .depths) ((c .before .before .before .before .before .before .before .before .before .before .pre) .todo) (c .before .before .clear-usize .ensures), refl, refl, refl)
+loop-holds c =
+    let clear-usize = c .before .before .clear-usize in
+    let if1 = c .before .before .before .before .if1 in
+    let args = c .before .before .before .before .before .before .before .before .before .before .args in
+    let pre = c .before .before .before .before .before .before .before .before .before .before .pre in (
+      progress-begun (chunkOf (args .code .now) (args .kinds .now)) (args .heights .now) (clear-usize .last .0) (args .depths .now) (args .todo .now)
+          (positive _ (if1 .left)) (clear-usize .kept .0) (pre .heights) (pre .depths) (pre .todo) (clear-usize .ensures),
+      refl,
+      refl,
+      refl,
+    )
 
 step-requires : tie.Need-step-requires Inv-loop μ-loop
-step-requires c κs = ((c .before .before .before .before .before .loop .inv .0), (c .before .before .before .if2 .taken))
+step-requires c κs =
+    let if2 = c .before .before .before .if2 in
+    let loop = c .before .before .before .before .before .loop in
+    ((loop .inv .0), (if2 .taken))
 
 loop-less : tie.Need-loop-less Inv-loop μ-loop
-loop-less c = falls _ _ (c .before .before .before .before .before .before .before .before .before .before .before .before .loop .inv .0) (c .before .before .before .before .before .before .before .before .before .before .if2 .taken) (c .before .before .before .before .before .before .step .kept .1 .1 .0) (c .before .before .before .before .before .before .step .ensures .1)
+loop-less c =
+    let step = c .before .before .before .before .before .before .step in
+    let if2 = c .before .before .before .before .before .before .before .before .before .before .if2 in
+    let loop = c .before .before .before .before .before .before .before .before .before .before .before .before .loop in
+    falls _ _ (loop .inv .0) (if2 .taken) (step .kept .1 .1 .0) (step .ensures .1)
 
 loop-again : tie.Need-loop-again Inv-loop μ-loop
-loop-again c = ((c .before .before .before .before .before .before .step .ensures .0), (c .before .before .before .before .before .before .step .kept .1 .1 .0) ∙ (c .before .before .before .before .before .before .before .before .before .before .before .before .loop .inv .1), (c .before .before .before .before .before .before .step .kept .1 .1 .1 .0) ∙ (c .before .before .before .before .before .before .before .before .before .before .before .before .loop .inv .2), (c .before .before .before .before .before .before .step .kept .1 .1 .1 .1 .0) ∙ (c .before .before .before .before .before .before .before .before .before .before .before .before .loop .inv .3))
+loop-again c =
+    let step = c .before .before .before .before .before .before .step in
+    let loop = c .before .before .before .before .before .before .before .before .before .before .before .before .loop in
+    ((step .ensures .0), (step .kept .1 .1 .0) ∙ (loop .inv .1), (step .kept .1 .1 .1 .0) ∙ (loop .inv .2), (step .kept .1 .1 .1 .1 .0) ∙ (loop .inv .3))
 
 fault-reason-requires : tie.Need-fault-reason-requires Inv-loop μ-loop
-fault-reason-requires c κs = (c .before .before .before .loop .inv .0) .found (c .if3 .taken) .1
+fault-reason-requires c κs =
+    let loop = c .before .before .before .loop in
+    (loop .inv .0) .found (c .if3 .taken) .1
 
 same-length : tie.Need-same-length Inv-loop μ-loop
-same-length c = (c .before .before .before .before .loop .inv .1) ∙ simp length-set (c .before .before .before .before .before .before .before .clear-usize .kept .0)
+same-length c =
+    let loop = c .before .before .before .before .loop in
+    let clear-usize = c .before .before .before .before .before .before .before .clear-usize in
+    (loop .inv .1) ∙ simp length-set (clear-usize .kept .0)
 
 same-length-2 : tie.Need-same-length-2 Inv-loop μ-loop
-same-length-2 c = (c .before .before .before .before .loop .inv .2) ∙ simp length-set
+same-length-2 c =
+    let loop = c .before .before .before .before .loop in
+    (loop .inv .2) ∙ simp length-set
 
 same-length-3 : tie.Need-same-length-3 Inv-loop μ-loop
-same-length-3 c = (c .before .before .before .before .loop .inv .3) ∙ simp length-set
+same-length-3 c =
+    let loop = c .before .before .before .before .loop in
+    (loop .inv .3) ∙ simp length-set
 
 returns-2 : tie.Need-returns-2 Inv-loop μ-loop
-returns-2 c = lowest-to (chunkOf (c .before .before .before .before .before .before .before .before .before .before .before .before .before .before .before .args .code .now) (c .before .before .before .before .before .before .before .before .before .before .before .before .before .before .before .args .kinds .now)) _ _ (end-fault (c .before .before .before .before .loop .inv .0) (c .before .before .if2 .left) _ (c .fault-reason .ensures) (c .before .if3 .taken))
+returns-2 c =
+    let if2 = c .before .before .if2 in
+    let loop = c .before .before .before .before .loop in
+    let args = c .before .before .before .before .before .before .before .before .before .before .before .before .before .before .before .args in
+    lowest-to (chunkOf (args .code .now) (args .kinds .now)) _ _ (end-fault (loop .inv .0) (if2 .left) _ (c .fault-reason .ensures) (c .before .if3 .taken))
 
 same-length-4 : tie.Need-same-length-4 Inv-loop μ-loop
-same-length-4 c = (c .before .before .before .before .before .loop .inv .1) ∙ simp length-set (c .before .before .before .before .before .before .before .before .clear-usize .kept .0)
+same-length-4 c =
+    let loop = c .before .before .before .before .before .loop in
+    let clear-usize = c .before .before .before .before .before .before .before .before .clear-usize in
+    (loop .inv .1) ∙ simp length-set (clear-usize .kept .0)
 
 same-length-5 : tie.Need-same-length-5 Inv-loop μ-loop
-same-length-5 c = (c .before .before .before .before .before .loop .inv .2) ∙ simp length-set
+same-length-5 c =
+    let loop = c .before .before .before .before .before .loop in
+    (loop .inv .2) ∙ simp length-set
 
 same-length-6 : tie.Need-same-length-6 Inv-loop μ-loop
-same-length-6 c = (c .before .before .before .before .before .loop .inv .3) ∙ simp length-set
+same-length-6 c =
+    let loop = c .before .before .before .before .before .loop in
+    (loop .inv .3) ∙ simp length-set
 
 returns-3 : tie.Need-returns-3 Inv-loop μ-loop
-returns-3 c = passes (chunkOf (c .before .before .before .before .before .before .before .before .before .before .before .before .before .before .before .before .args .code .now) (c .before .before .before .before .before .before .before .before .before .before .before .before .before .before .before .before .args .kinds .now)) (no-fault (c .before .before .before .before .before .loop .inv .0) (c .before .before .before .if2 .left) (c .before .before .if3 .left)) _ _ (end-right (c .before .before .before .before .before .loop .inv .0) (c .before .before .before .if2 .left) (c .if4 .taken))
+returns-3 c =
+    let if3 = c .before .before .if3 in
+    let if2 = c .before .before .before .if2 in
+    let loop = c .before .before .before .before .before .loop in
+    let args = c .before .before .before .before .before .before .before .before .before .before .before .before .before .before .before .before .args in
+    passes (chunkOf (args .code .now) (args .kinds .now)) (no-fault (loop .inv .0) (if2 .left) (if3 .left)) _ _ (end-right (loop .inv .0) (if2 .left)
+    (c .if4 .taken))
 
 same-length-7 : tie.Need-same-length-7 Inv-loop μ-loop
-same-length-7 c = (c .before .before .before .before .before .loop .inv .1) ∙ simp length-set (c .before .before .before .before .before .before .before .before .clear-usize .kept .0)
+same-length-7 c =
+    let loop = c .before .before .before .before .before .loop in
+    let clear-usize = c .before .before .before .before .before .before .before .before .clear-usize in
+    (loop .inv .1) ∙ simp length-set (clear-usize .kept .0)
 
 same-length-8 : tie.Need-same-length-8 Inv-loop μ-loop
-same-length-8 c = (c .before .before .before .before .before .loop .inv .2) ∙ simp length-set
+same-length-8 c =
+    let loop = c .before .before .before .before .before .loop in
+    (loop .inv .2) ∙ simp length-set
 
 same-length-9 : tie.Need-same-length-9 Inv-loop μ-loop
-same-length-9 c = (c .before .before .before .before .before .loop .inv .3) ∙ simp length-set
+same-length-9 c =
+    let loop = c .before .before .before .before .before .loop in
+    (loop .inv .3) ∙ simp length-set
 
 returns-4 : tie.Need-returns-4 Inv-loop μ-loop
-returns-4 c = none-to (chunkOf (c .before .before .before .before .before .before .before .before .before .before .before .before .before .before .before .before .args .code .now) (c .before .before .before .before .before .before .before .before .before .before .before .before .before .before .before .before .args .kinds .now)) (no-fault (c .before .before .before .before .before .loop .inv .0) (c .before .before .before .if2 .left) (c .before .before .if3 .left)) (end-wrong (c .before .before .before .before .before .loop .inv .0) (c .before .before .before .if2 .left) (c .if4 .left))
+returns-4 c =
+    let if3 = c .before .before .if3 in
+    let if2 = c .before .before .before .if2 in
+    let loop = c .before .before .before .before .before .loop in
+    let args = c .before .before .before .before .before .before .before .before .before .before .before .before .before .before .before .before .args in
+    none-to (chunkOf (args .code .now) (args .kinds .now)) (no-fault (loop .inv .0) (if2 .left) (if3 .left)) (end-wrong (loop .inv .0) (if2 .left) (c .if4 .left))
 
 pub judge-spec : {M : Type 1} → statement M
 judge-spec =

@@ -10,7 +10,8 @@ use Rattle.stack_check.specs.Answer.{PassBelow}
 use Rattle.stack_check.proofs.Whole.{row-lent, pass-next, fault-decided, pass-decided}
 
 abbrev Inv-loop : tie.InvT-loop
-Inv-loop bytes kinds table chunks heights₀ depths₀ todo₀ c₀ heights depths todo c = (length heights ≡ length heights₀) × (length depths ≡ length depths₀) × (length todo ≡ length todo₀) × (c ≤ chunks) × PassBelow bytes kinds table chunks c
+Inv-loop bytes kinds table chunks heights₀ depths₀ todo₀ c₀ heights depths todo c = (length heights ≡ length heights₀) × (length depths ≡ length
+    depths₀) × (length todo ≡ length todo₀) × (c ≤ chunks) × PassBelow bytes kinds table chunks c
 
 abbrev μ-loop : tie.MeasureT-loop
 μ-loop bytes kinds table chunks heights₀ depths₀ todo₀ c₀ heights depths todo c = chunks - c
@@ -19,7 +20,11 @@ loop-holds : tie.Need-loop-holds Inv-loop μ-loop
 loop-holds c = (refl, refl, refl, omega arith, λ im H b l. absurd (not-suc-le-zero l))
 
 judge-row-requires : tie.Need-judge-row-requires Inv-loop μ-loop
-judge-row-requires c κs = row-lent (c .before .before .before .before .loop .c) (c .before .before .before .before .before .before .before .before .before .before .before .pre) (c .before .before .before .before .loop .inv .0) (c .before .before .before .before .loop .inv .1) (c .before .before .before .before .loop .inv .2) (c .before .before .before .loop-test .taken)
+judge-row-requires c κs =
+    let loop-test = c .before .before .before .loop-test in
+    let loop = c .before .before .before .before .loop in
+    let pre = c .before .before .before .before .before .before .before .before .before .before .before .pre in
+    row-lent (loop .c) pre (loop .inv .0) (loop .inv .1) (loop .inv .2) (loop-test .taken)
 
 enum-told : tie.Need-enum-told Inv-loop μ-loop
 enum-told c = search needs
@@ -28,25 +33,55 @@ enum-known-reason : tie.Need-enum-known-reason Inv-loop μ-loop
 enum-known-reason c = search needs
 
 same-length : tie.Need-same-length Inv-loop μ-loop
-same-length c = (c .before .before .before .before .before .before .before .before .before .judge-row .kept .1 .1 .1 .1 .0) ∙ (c .before .before .before .before .before .before .before .before .before .before .before .before .before .before .loop .inv .0)
+same-length c =
+    let judge-row = c .before .before .before .before .before .before .before .before .before .judge-row in
+    let loop = c .before .before .before .before .before .before .before .before .before .before .before .before .before .before .loop in
+    (judge-row .kept .1 .1 .1 .1 .0) ∙ (loop .inv .0)
 
 same-length-2 : tie.Need-same-length-2 Inv-loop μ-loop
-same-length-2 c = (c .before .before .before .before .before .before .before .before .before .judge-row .kept .1 .1 .1 .1 .1 .0) ∙ (c .before .before .before .before .before .before .before .before .before .before .before .before .before .before .loop .inv .1)
+same-length-2 c =
+    let judge-row = c .before .before .before .before .before .before .before .before .before .judge-row in
+    let loop = c .before .before .before .before .before .before .before .before .before .before .before .before .before .before .loop in
+    (judge-row .kept .1 .1 .1 .1 .1 .0) ∙ (loop .inv .1)
 
 same-length-3 : tie.Need-same-length-3 Inv-loop μ-loop
-same-length-3 c = (c .before .before .before .before .before .before .before .before .before .judge-row .kept .1 .1 .1 .1 .1 .1 .0) ∙ (c .before .before .before .before .before .before .before .before .before .before .before .before .before .before .loop .inv .2)
+same-length-3 c =
+    let judge-row = c .before .before .before .before .before .before .before .before .before .judge-row in
+    let loop = c .before .before .before .before .before .before .before .before .before .before .before .before .before .before .loop in
+    (judge-row .kept .1 .1 .1 .1 .1 .1 .0) ∙ (loop .inv .2)
 
 returns : tie.Need-returns Inv-loop μ-loop
-returns c = fault-decided (c .before .before .before .before .before .before .before .before .before .before .before .before .before .before .loop .c) _ _ _ (c .before .before .before .before .before .before .before .before .before .before .before .before .before .loop-test .taken) (c .before .reason .given .1) (c .before .before .before .before .before .before .before .before .before .judge-row .ensures) (c .before .before .before .before .before .before .before .before .before .before .before .before .before .before .loop .inv .4)
+returns c =
+    let judge-row = c .before .before .before .before .before .before .before .before .before .judge-row in
+    let loop-test = c .before .before .before .before .before .before .before .before .before .before .before .before .before .loop-test in
+    let loop = c .before .before .before .before .before .before .before .before .before .before .before .before .before .before .loop in
+    fault-decided (loop .c) _ _ _ (loop-test .taken) (c .before .reason .given .1) (judge-row .ensures) (loop .inv .4)
 
 add-c : tie.Need-add-c Inv-loop μ-loop
-add-c c = omega (arith, (c .before .before .before .before .before .before .before .before .before .before .before .before .loop-test .taken), (c .before .before .before .before .before .before .before .before .before .before .before .before .before .before .before .before .before .before .before .before .fits .chunks))
+add-c c =
+    let loop-test = c .before .before .before .before .before .before .before .before .before .before .before .before .loop-test in
+    let fits = c .before .before .before .before .before .before .before .before .before .before .before .before .before .before .before .before .before .before .before .before .fits
+    in
+    omega (arith, (loop-test .taken), (fits .chunks))
 
 loop-less : tie.Need-loop-less Inv-loop μ-loop
-loop-less c = omega (arith, (c .before .before .before .before .before .before .before .before .before .before .before .before .loop-test .taken))
+loop-less c =
+    let loop-test = c .before .before .before .before .before .before .before .before .before .before .before .before .loop-test in
+    omega (arith, (loop-test .taken))
 
 loop-again : tie.Need-loop-again Inv-loop μ-loop
-loop-again c = ((c .before .before .before .before .before .before .before .before .judge-row .kept .1 .1 .1 .1 .0) ∙ (c .before .before .before .before .before .before .before .before .before .before .before .before .before .loop .inv .0), (c .before .before .before .before .before .before .before .before .judge-row .kept .1 .1 .1 .1 .1 .0) ∙ (c .before .before .before .before .before .before .before .before .before .before .before .before .before .loop .inv .1), (c .before .before .before .before .before .before .before .before .judge-row .kept .1 .1 .1 .1 .1 .1 .0) ∙ (c .before .before .before .before .before .before .before .before .before .before .before .before .before .loop .inv .2), omega (arith, (c .before .before .before .before .before .before .before .before .before .before .before .before .loop-test .taken)), pass-next (c .before .before .before .before .before .before .before .before .before .before .before .before .before .loop .c) _ (c .before .before .before .before .before .before .before .before .before .before .before .before .loop-test .taken) (c .enum-told .given .1) (c .before .before .before .before .before .before .before .before .judge-row .ensures) (c .before .before .before .before .before .before .before .before .before .before .before .before .before .loop .inv .4))
+loop-again c =
+    let judge-row = c .before .before .before .before .before .before .before .before .judge-row in
+    let loop-test = c .before .before .before .before .before .before .before .before .before .before .before .before .loop-test in
+    let loop = c .before .before .before .before .before .before .before .before .before .before .before .before .before .loop in (
+      (judge-row .kept .1 .1 .1 .1 .0) ∙ (loop .inv .0),
+      (judge-row .kept .1 .1 .1 .1 .1 .0) ∙ (loop .inv .1),
+      (judge-row .kept .1 .1 .1 .1 .1 .1 .0) ∙
+          (loop .inv .2),
+      omega (arith, (loop-test .taken)),
+      pass-next (loop .c) _ (loop-test .taken) (c .enum-told .given .1) (judge-row .ensures)
+          (loop .inv .4),
+    )
 
 same-length-4 : tie.Need-same-length-4 Inv-loop μ-loop
 same-length-4 c = (c .before .loop .inv .0)

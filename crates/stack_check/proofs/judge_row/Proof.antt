@@ -17,7 +17,9 @@ mul-from : tie.Need-mul-from
 mul-from c = let h = (c .before .before .before .before .before .before .pre .1 .row-within) in search needs
 
 shared-slice-read-from : tie.Need-shared-slice-read-from
-shared-slice-read-from c = omega (arith, (c .before .before .before .before .before .before .before .pre .1 .row-within))
+shared-slice-read-from c =
+    let pre = c .before .before .before .before .before .before .before .pre in
+    omega (arith, (pre .1 .row-within))
 
 add-to : tie.Need-add-to
 add-to c = let h = (c .before .before .before .before .before .before .before .pre .1 .row-within) in search needs
@@ -26,7 +28,9 @@ mul-to : tie.Need-mul-to
 mul-to c = let h = (c .before .before .before .before .before .before .before .pre .1 .row-within) in search needs
 
 shared-slice-read-to : tie.Need-shared-slice-read-to
-shared-slice-read-to c = omega (arith, (c .before .before .before .before .before .before .before .before .pre .1 .row-within))
+shared-slice-read-to c =
+    let pre = c .before .before .before .before .before .before .before .before .pre in
+    omega (arith, (pre .1 .row-within))
 
 add-kinds-from : tie.Need-add-kinds-from
 add-kinds-from c = let h = (c .before .before .before .before .before .before .before .before .pre .1 .row-within) in search needs
@@ -35,7 +39,9 @@ mul-kinds-from : tie.Need-mul-kinds-from
 mul-kinds-from c = let h = (c .before .before .before .before .before .before .before .before .pre .1 .row-within) in search needs
 
 shared-slice-read-kinds-from : tie.Need-shared-slice-read-kinds-from
-shared-slice-read-kinds-from c = omega (arith, (c .before .before .before .before .before .before .before .before .before .pre .1 .row-within))
+shared-slice-read-kinds-from c =
+    let pre = c .before .before .before .before .before .before .before .before .before .pre in
+    omega (arith, (pre .1 .row-within))
 
 add-kinds-to : tie.Need-add-kinds-to
 add-kinds-to c = let h = (c .before .before .before .before .before .before .before .before .before .pre .1 .row-within) in search needs
@@ -44,28 +50,44 @@ mul-kinds-to : tie.Need-mul-kinds-to
 mul-kinds-to c = let h = (c .before .before .before .before .before .before .before .before .before .pre .1 .row-within) in search needs
 
 shared-slice-read-kinds-to : tie.Need-shared-slice-read-kinds-to
-shared-slice-read-kinds-to c = omega (arith, (c .before .before .before .before .before .before .before .before .before .before .pre .1 .row-within))
+shared-slice-read-kinds-to c =
+    let pre = c .before .before .before .before .before .before .before .before .before .before .pre in
+    omega (arith, (pre .1 .row-within))
 
 sub-judge : tie.Need-sub-judge
-sub-judge c = (c .before .before .before .before .before .before .before .before .before .before .pre .1 .code-rises)
+sub-judge c =
+    let pre = c .before .before .before .before .before .before .before .before .before .before .pre in
+    (pre .1 .code-rises)
 
 part-judge-start : tie.Need-part-judge-start
-part-judge-start c = (c .before .before .before .before .before .before .before .before .before .before .pre .1 .code-rises)
+part-judge-start c =
+    let pre = c .before .before .before .before .before .before .before .before .before .before .pre in
+    (pre .1 .code-rises)
 
 part-judge-end : tie.Need-part-judge-end
-part-judge-end c = (c .before .before .before .before .before .before .before .before .before .before .pre .1 .code-within)
+part-judge-end c =
+    let pre = c .before .before .before .before .before .before .before .before .before .before .pre in
+    (pre .1 .code-within)
 
 sub-judge-2 : tie.Need-sub-judge-2
-sub-judge-2 c = (c .before .before .before .before .before .before .before .before .before .before .before .pre .1 .constants-rise)
+sub-judge-2 c =
+    let pre = c .before .before .before .before .before .before .before .before .before .before .before .pre in
+    (pre .1 .constants-rise)
 
 part-judge-start-2 : tie.Need-part-judge-start-2
-part-judge-start-2 c = (c .before .before .before .before .before .before .before .before .before .before .before .pre .1 .constants-rise)
+part-judge-start-2 c =
+    let pre = c .before .before .before .before .before .before .before .before .before .before .before .pre in
+    (pre .1 .constants-rise)
 
 part-judge-end-2 : tie.Need-part-judge-end-2
-part-judge-end-2 c = (c .before .before .before .before .before .before .before .before .before .before .before .pre .1 .kinds-within)
+part-judge-end-2 c =
+    let pre = c .before .before .before .before .before .before .before .before .before .before .before .pre in
+    (pre .1 .kinds-within)
 
 judge-requires : tie.Need-judge-requires
-judge-requires c κs = roomy-cut (c .before .before .before .before .before .before .before .before .before .before .before .before .before .before .before .pre .0) (c .before .before .before .before .before .before .before .before .before .before .before .before .before .before .before .pre .1 .code-is) (c .before .before .before .before .before .before .before .before .before .before .before .before .before .before .before .pre .2)
+judge-requires c κs =
+    let pre = c .before .before .before .before .before .before .before .before .before .before .before .before .before .before .before .pre in
+    roomy-cut (pre .0) (pre .1 .code-is) (pre .2)
 
 same-length : tie.Need-same-length
 same-length c = search needs
@@ -77,7 +99,13 @@ same-length-3 : tie.Need-same-length-3
 same-length-3 c = search needs
 
 returns : tie.Need-returns
-returns c = λ k H. answer-for k (cut (getD (c .before .before .before .before .before .before .before .before .before .before .before .before .before .before .before .before .before .before .before .before .before .before .args .table .now) (4 * (c .before .before .before .before .before .before .before .before .before .before .before .before .before .before .before .before .before .before .before .before .before .before .args .c) + 3) 0) (getD (c .before .before .before .before .before .before .before .before .before .before .before .before .before .before .before .before .before .before .before .before .before .before .args .table .now) (4 * (c .before .before .before .before .before .before .before .before .before .before .before .before .before .before .before .before .before .before .before .before .before .before .args .c) + 7) 0) (c .before .before .before .before .before .before .before .before .before .before .before .before .before .before .before .before .before .before .before .before .before .before .args .bytes .now)) (cut (getD (c .before .before .before .before .before .before .before .before .before .before .before .before .before .before .before .before .before .before .before .before .before .before .args .table .now) (4 * (c .before .before .before .before .before .before .before .before .before .before .before .before .before .before .before .before .before .before .before .before .before .before .args .c) + 2) 0) (getD (c .before .before .before .before .before .before .before .before .before .before .before .before .before .before .before .before .before .before .before .before .before .before .args .table .now) (4 * (c .before .before .before .before .before .before .before .before .before .before .before .before .before .before .before .before .before .before .before .before .before .before .args .c) + 6) 0) (c .before .before .before .before .before .before .before .before .before .before .before .before .before .before .before .before .before .before .before .before .before .before .args .kinds .now)) (c .before .before .before .before .before .before .judge .result) (H .code-is) (H .kinds-are) (c .before .before .before .before .before .before .judge .ensures)
+returns c =
+    let judge = c .before .before .before .before .before .before .judge in
+    let args = c .before .before .before .before .before .before .before .before .before .before .before .before .before .before .before .before .before .before .before .before .before .before .args
+    in
+    λ k H. answer-for k (cut (getD (args .table .now) (4 * (args .c) + 3) 0) (getD (args .table .now) (4 * (args .c) + 7) 0) (args .bytes .now)) (cut
+    (getD (args .table .now) (4 * (args .c) + 2) 0) (getD (args .table .now) (4 * (args .c) + 6) 0) (args .kinds .now)) (judge .result) (H .code-is)
+    (H .kinds-are) (judge .ensures)
 
 pub judge-row-spec : {M : Type 1} → statement M
 judge-row-spec =

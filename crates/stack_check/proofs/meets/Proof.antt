@@ -17,7 +17,9 @@ returns-4 : tie.Need-returns-4
 returns-4 c = search needs
 
 returns-5 : tie.Need-returns-5
-returns-5 c = record { yes = λ n. absurd (n refl); not = λ e f. (c .if4 .left) (f .exactly (c .before .before .if3 .left)) }
+returns-5 c =
+    let if3 = c .before .before .if3 in
+    record { yes = λ n. absurd (n refl); not = λ e f. (c .if4 .left) (f .exactly (if3 .left)) }
 
 pub meets-spec : {M : Type 1} → statement M
 meets-spec = tie.close (tie.spec returns returns-2 returns-3 returns-4 returns-5)

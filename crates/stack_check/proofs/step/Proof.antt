@@ -25,22 +25,51 @@ add-t18 : tie.Need-add-t18
 add-t18 c = search needs
 
 returns : tie.Need-returns
-returns c = (step-lower (c .before .before .before .before .before .before .before .before .before .before .pre .0) (c .before .before .before .before .before .before .before .before .before .before .pre .1) _ refl (is-faulty ((c .before .before .before .inspect .ensures) (chunkOf (c .before .before .before .before .before .before .before .before .before .before .args .code .now) (c .before .before .before .before .before .before .before .before .before .before .args .kinds .now)) refl (kinds-back (c .before .before .before .before .before .before .before .before .before .before .args .kinds .now))) (c .before .enum-told .given .1)) (c .if1 .taken), refl)
+returns c =
+    let inspect = c .before .before .before .inspect in
+    let args = c .before .before .before .before .before .before .before .before .before .before .args in
+    let pre = c .before .before .before .before .before .before .before .before .before .before .pre in (
+      step-lower (pre .0) (pre .1) _ refl (is-faulty ((inspect .ensures) (chunkOf (args .code .now) (args .kinds .now)) refl (kinds-back (args .kinds .now)))
+          (c .before .enum-told .given .1)) (c .if1 .taken),
+      refl,
+    )
 
 add-t19 : tie.Need-add-t19
 add-t19 c = search needs
 
 returns-2 : tie.Need-returns-2
-returns-2 c = (step-higher (c .before .before .before .before .before .before .before .before .before .before .pre .0) (c .before .before .before .before .before .before .before .before .before .before .pre .1) _ refl (is-faulty ((c .before .before .before .inspect .ensures) (chunkOf (c .before .before .before .before .before .before .before .before .before .before .args .code .now) (c .before .before .before .before .before .before .before .before .before .before .args .kinds .now)) refl (kinds-back (c .before .before .before .before .before .before .before .before .before .before .args .kinds .now))) (c .before .enum-told .given .1)) (c .if1 .left), refl)
+returns-2 c =
+    let inspect = c .before .before .before .inspect in
+    let args = c .before .before .before .before .before .before .before .before .before .before .args in
+    let pre = c .before .before .before .before .before .before .before .before .before .before .pre in (
+      step-higher (pre .0) (pre .1) _ refl (is-faulty ((inspect .ensures) (chunkOf (args .code .now) (args .kinds .now)) refl (kinds-back (args .kinds .now)))
+          (c .before .enum-told .given .1)) (c .if1 .left),
+      refl,
+    )
 
 enum-known-i : tie.Need-enum-known-i
 enum-known-i c = search needs
 
 handle-requires : tie.Need-handle-requires
-handle-requires c κs = ((c .before .before .before .before .before .before .before .before .before .before .before .before .before .pre .0), (c .before .before .before .before .before .before .before .before .before .before .before .before .before .pre .0) .listed _ (c .before .before .before .before .before .before .before .before .before .before .before .before .before .pre .1), is-clean ((c .before .before .before .before .before .before .inspect .ensures) (chunkOf (c .before .before .before .before .before .before .before .before .before .before .before .before .before .args .code .now) (c .before .before .before .before .before .before .before .before .before .before .before .before .before .args .kinds .now)) refl (kinds-back (c .before .before .before .before .before .before .before .before .before .before .before .before .before .args .kinds .now))) (c .before .before .before .before .i .given .1), is-here ((c .before .before .before .before .before .before .inspect .ensures) (chunkOf (c .before .before .before .before .before .before .before .before .before .before .before .before .before .args .code .now) (c .before .before .before .before .before .before .before .before .before .before .before .before .before .args .kinds .now)) refl (kinds-back (c .before .before .before .before .before .before .before .before .before .before .before .before .before .args .kinds .now))) (c .before .before .before .before .i .given .1))
+handle-requires c κs =
+    let i = c .before .before .before .before .i in
+    let inspect = c .before .before .before .before .before .before .inspect in
+    let args = c .before .before .before .before .before .before .before .before .before .before .before .before .before .args in
+    let pre = c .before .before .before .before .before .before .before .before .before .before .before .before .before .pre in (
+      (pre .0),
+      (pre .0) .listed _ (pre .1),
+      is-clean ((inspect .ensures) (chunkOf (args .code .now) (args .kinds .now)) refl (kinds-back (args .kinds .now)))
+          (i .given .1),
+      is-here ((inspect .ensures) (chunkOf (args .code .now) (args .kinds .now)) refl (kinds-back (args .kinds .now))) (i .given .1),
+    )
 
 add-t26 : tie.Need-add-t26
-add-t26 c = omega (arith, (c .before .before .before .before .before .before .before .before .before .before .before .before .before .before .before .before .before .before .before .before .pre .0) .room, (c .before .before .before .before .before .before .before .before .before .before .before .before .before .before .before .before .before .before .before .before .pre .0) .order, (c .before .before .before .before .before .before .before .before .before .before .before .before .before .before .before .before .before .before .before .before .pre .1), (c .before .before .before .before .before .before .before .before .before .before .before .before .before .before .before .before .before .before .before .before .good))
+add-t26 c =
+    let good = c .before .before .before .before .before .before .before .before .before .before .before .before .before .before .before .before .before .before .before .before .good
+    in
+    let pre = c .before .before .before .before .before .before .before .before .before .before .before .before .before .before .before .before .before .before .before .before .pre
+    in
+    omega (arith, (pre .0) .room, (pre .0) .order, (pre .1), good)
 
 same-length : tie.Need-same-length
 same-length c = search needs
@@ -52,7 +81,18 @@ same-length-3 : tie.Need-same-length-3
 same-length-3 c = search needs
 
 returns-3 : tie.Need-returns-3
-returns-3 c = (step-handled (c .before .before .before .before .before .before .before .before .before .before .before .before .before .before .before .before .before .before .before .before .pre .1) (is-clean ((c .before .before .before .before .before .before .before .before .before .before .before .before .before .inspect .ensures) (chunkOf (c .before .before .before .before .before .before .before .before .before .before .before .before .before .before .before .before .before .before .before .before .args .code .now) (c .before .before .before .before .before .before .before .before .before .before .before .before .before .before .before .before .before .before .before .before .args .kinds .now)) refl (kinds-back (c .before .before .before .before .before .before .before .before .before .before .before .before .before .before .before .before .before .before .before .before .args .kinds .now))) (c .before .before .before .before .before .before .before .before .before .before .before .i .given .1)) (c .before .before .before .before .before .before .handle .ensures), refl)
+returns-3 c =
+    let handle = c .before .before .before .before .before .before .handle in
+    let i = c .before .before .before .before .before .before .before .before .before .before .before .i in
+    let inspect = c .before .before .before .before .before .before .before .before .before .before .before .before .before .inspect in
+    let args = c .before .before .before .before .before .before .before .before .before .before .before .before .before .before .before .before .before .before .before .before .args
+    in
+    let pre = c .before .before .before .before .before .before .before .before .before .before .before .before .before .before .before .before .before .before .before .before .pre
+    in (
+      step-handled (pre .1) (is-clean ((inspect .ensures) (chunkOf (args .code .now) (args .kinds .now)) refl (kinds-back (args .kinds .now))) (i .given .1))
+          (handle .ensures),
+      refl,
+    )
 
 pub step-spec : {M : Type 1} → statement M
 step-spec =

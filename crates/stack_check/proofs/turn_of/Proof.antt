@@ -56,28 +56,36 @@ asks-requires-8 : tie.Need-asks-requires-8
 asks-requires-8 c κs = search needs
 
 returns : tie.Need-returns
-returns c = turn-is _ (turnOf Straight) ((c .asks .ensures .0)) ((c .asks .ensures .1)) ((c .asks .ensures .2)) ((c .asks .ensures .3)) ∙ sym (ap turnOf (c .before .enum-told .given .1))
+returns c = turn-is _ (turnOf Straight) ((c .asks .ensures .0)) ((c .asks .ensures .1)) ((c .asks .ensures .2)) ((c .asks .ensures .3)) ∙ sym (ap
+    turnOf (c .before .enum-told .given .1))
 
 returns-2 : tie.Need-returns-2
-returns-2 c = turn-is _ (turnOf Opens) ((c .asks2 .ensures .0)) ((c .asks2 .ensures .1)) ((c .asks2 .ensures .2)) ((c .asks2 .ensures .3)) ∙ sym (ap turnOf (c .before .enum-told2 .given .1))
+returns-2 c = turn-is _ (turnOf Opens) ((c .asks2 .ensures .0)) ((c .asks2 .ensures .1)) ((c .asks2 .ensures .2)) ((c .asks2 .ensures .3)) ∙ sym (ap
+    turnOf (c .before .enum-told2 .given .1))
 
 returns-3 : tie.Need-returns-3
-returns-3 c = turn-is _ (turnOf Closes) ((c .asks3 .ensures .0)) ((c .asks3 .ensures .1)) ((c .asks3 .ensures .2)) ((c .asks3 .ensures .3)) ∙ sym (ap turnOf (c .before .enum-told3 .given .1))
+returns-3 c = turn-is _ (turnOf Closes) ((c .asks3 .ensures .0)) ((c .asks3 .ensures .1)) ((c .asks3 .ensures .2)) ((c .asks3 .ensures .3)) ∙ sym (ap
+    turnOf (c .before .enum-told3 .given .1))
 
 returns-4 : tie.Need-returns-4
-returns-4 c = turn-is _ (turnOf Forward) ((c .asks4 .ensures .0)) ((c .asks4 .ensures .1)) ((c .asks4 .ensures .2)) ((c .asks4 .ensures .3)) ∙ sym (ap turnOf (c .before .enum-told4 .given .1))
+returns-4 c = turn-is _ (turnOf Forward) ((c .asks4 .ensures .0)) ((c .asks4 .ensures .1)) ((c .asks4 .ensures .2)) ((c .asks4 .ensures .3)) ∙ sym (ap
+    turnOf (c .before .enum-told4 .given .1))
 
 returns-5 : tie.Need-returns-5
-returns-5 c = turn-is _ (turnOf Backward) ((c .asks5 .ensures .0)) ((c .asks5 .ensures .1)) ((c .asks5 .ensures .2)) ((c .asks5 .ensures .3)) ∙ sym (ap turnOf (c .before .enum-told5 .given .1))
+returns-5 c = turn-is _ (turnOf Backward) ((c .asks5 .ensures .0)) ((c .asks5 .ensures .1)) ((c .asks5 .ensures .2)) ((c .asks5 .ensures .3)) ∙ sym
+    (ap turnOf (c .before .enum-told5 .given .1))
 
 returns-6 : tie.Need-returns-6
-returns-6 c = turn-is _ (turnOf Forks) ((c .asks6 .ensures .0)) ((c .asks6 .ensures .1)) ((c .asks6 .ensures .2)) ((c .asks6 .ensures .3)) ∙ sym (ap turnOf (c .before .enum-told6 .given .1))
+returns-6 c = turn-is _ (turnOf Forks) ((c .asks6 .ensures .0)) ((c .asks6 .ensures .1)) ((c .asks6 .ensures .2)) ((c .asks6 .ensures .3)) ∙ sym (ap
+    turnOf (c .before .enum-told6 .given .1))
 
 returns-7 : tie.Need-returns-7
-returns-7 c = turn-is _ (turnOf Ends) ((c .asks7 .ensures .0)) ((c .asks7 .ensures .1)) ((c .asks7 .ensures .2)) ((c .asks7 .ensures .3)) ∙ sym (ap turnOf (c .before .enum-told7 .given .1))
+returns-7 c = turn-is _ (turnOf Ends) ((c .asks7 .ensures .0)) ((c .asks7 .ensures .1)) ((c .asks7 .ensures .2)) ((c .asks7 .ensures .3)) ∙ sym (ap
+    turnOf (c .before .enum-told7 .given .1))
 
 returns-8 : tie.Need-returns-8
-returns-8 c = turn-is _ (turnOf MayEnd) ((c .asks8 .ensures .0)) ((c .asks8 .ensures .1)) ((c .asks8 .ensures .2)) ((c .asks8 .ensures .3)) ∙ sym (ap turnOf (c .before .enum-told8 .given .1))
+returns-8 c = turn-is _ (turnOf MayEnd) ((c .asks8 .ensures .0)) ((c .asks8 .ensures .1)) ((c .asks8 .ensures .2)) ((c .asks8 .ensures .3)) ∙ sym (ap
+    turnOf (c .before .enum-told8 .given .1))
 
 pub turn-of-spec : {M : Type 1} → statement M
 turn-of-spec =

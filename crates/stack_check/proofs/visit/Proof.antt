@@ -9,10 +9,14 @@ apart : {a b : ℕ} → a < b → b ≤ a → ⊥
 apart x y = omega arith
 
 returns : tie.Need-returns
-returns c = rw (c .if2 .taken) (visit-past (c .before .before .pre .0) _ _ (c .before .if1 .taken))
+returns c =
+    let pre = c .before .before .pre in
+    rw (c .if2 .taken) (visit-past (pre .0) _ _ (c .before .if1 .taken))
 
 returns-2 : tie.Need-returns-2
-returns-2 c = visit-wrong (c .before .before .pre .0) _ _ _ (λ m. absurd (apart m (c .before .if1 .taken))) (wrong-end (c .before .before .pre .0) _ _ _ (c .before .before .pre .1) (c .before .if1 .taken) (c .if2 .left))
+returns-2 c =
+    let pre = c .before .before .pre in
+    visit-wrong (pre .0) _ _ _ (λ m. absurd (apart m (c .before .if1 .taken))) (wrong-end (pre .0) _ _ _ (pre .1) (c .before .if1 .taken) (c .if2 .left))
 
 mul-if3 : tie.Need-mul-if3
 mul-if3 c = search needs
@@ -39,7 +43,10 @@ mul-todo : tie.Need-mul-todo
 mul-todo c = search needs
 
 slice-write-todo : tie.Need-slice-write-todo
-slice-write-todo c = let r = room-left (c .before .before .before .pre .0) _ _ _ (c .before .before .before .pre .1) (c .before .before .if1 .left) (c .if3 .taken) in omega (arith, (c .before .before .before .pre .0 .long-todo))
+slice-write-todo c =
+    let if1 = c .before .before .if1 in
+    let pre = c .before .before .before .pre in
+    let r = room-left (pre .0) _ _ _ (pre .1) (if1 .left) (c .if3 .taken) in omega (arith, (pre .0 .long-todo))
 
 add-t17 : tie.Need-add-t17
 add-t17 c = search needs
@@ -54,7 +61,10 @@ same-length-3 : tie.Need-same-length-3
 same-length-3 c = search needs
 
 returns-3 : tie.Need-returns-3
-returns-3 c = visit-new (c .before .before .before .pre .0) _ _ _ (c .before .before .before .pre .1) (c .before .before .if1 .left) (c .if3 .taken)
+returns-3 c =
+    let if1 = c .before .before .if1 in
+    let pre = c .before .before .before .pre in
+    visit-new (pre .0) _ _ _ (pre .1) (if1 .left) (c .if3 .taken)
 
 mul-if4 : tie.Need-mul-if4
 mul-if4 c = search needs
@@ -72,13 +82,25 @@ slice-read-if5 : tie.Need-slice-read-if5
 slice-read-if5 c = search needs
 
 returns-4 : tie.Need-returns-4
-returns-4 c = visit-same (c .before .before .before .before .before .before .before .pre .0) _ _ _ (c .before .before .before .before .before .before .if1 .left) (c .before .before .if4 .taken) (c .if5 .taken)
+returns-4 c =
+    let if4 = c .before .before .if4 in
+    let if1 = c .before .before .before .before .before .before .if1 in
+    let pre = c .before .before .before .before .before .before .before .pre in
+    visit-same (pre .0) _ _ _ (if1 .left) (if4 .taken) (c .if5 .taken)
 
 returns-5 : tie.Need-returns-5
-returns-5 c = visit-wrong (c .before .before .before .before .before .before .before .pre .0) _ _ _ (λ m. positive _ (c .before .before .before .before .if3 .left)) (wrong-depth (c .before .before .before .before .before .before .before .pre .0) _ _ _ (c .before .before .before .before .before .before .before .pre .1) (c .before .before .before .before .before .before .if1 .left) (positive _ (c .before .before .before .before .if3 .left)) (c .if5 .left))
+returns-5 c =
+    let if3 = c .before .before .before .before .if3 in
+    let if1 = c .before .before .before .before .before .before .if1 in
+    let pre = c .before .before .before .before .before .before .before .pre in
+    visit-wrong (pre .0) _ _ _ (λ m. positive _ (if3 .left)) (wrong-depth (pre .0) _ _ _ (pre .1) (if1 .left) (positive _ (if3 .left)) (c .if5 .left))
 
 returns-6 : tie.Need-returns-6
-returns-6 c = visit-wrong (c .before .before .before .before .before .pre .0) _ _ _ (λ m. positive _ (c .before .before .if3 .left)) (wrong-height (c .before .before .before .before .before .pre .0) _ _ _ (c .before .before .before .before .before .pre .1) (c .before .before .before .before .if1 .left) (positive _ (c .before .before .if3 .left)) (c .if4 .left))
+returns-6 c =
+    let if3 = c .before .before .if3 in
+    let if1 = c .before .before .before .before .if1 in
+    let pre = c .before .before .before .before .before .pre in
+    visit-wrong (pre .0) _ _ _ (λ m. positive _ (if3 .left)) (wrong-height (pre .0) _ _ _ (pre .1) (if1 .left) (positive _ (if3 .left)) (c .if4 .left))
 
 pub visit-spec : {M : Type 1} → statement M
 visit-spec =

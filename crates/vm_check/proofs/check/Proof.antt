@@ -42,7 +42,23 @@ same-length-8 : tie.Need-same-length-8
 same-length-8 c = search needs
 
 returns : tie.Need-returns
-returns c = ((c .before .before .before .before .before .before .before .before .before .before .before .before .before .before .before .before .before .before .before .before .before .before .before .before .before .before .before .before .before .before .before .before .before .before .before .before .before .before .before .before .before .before .before .before .judge .ensures), record { loading = (c .before .before .before .before .before .before .before .before .before .before .before .before .before .before .before .before .before .before .before .before .before .before .clear-load .ensures); heights = (c .before .before .before .before .before .before .before .before .before .before .clear-usize .ensures); depths = (c .before .before .before .before .before .before .clear-usize2 .ensures); todo = (c .before .before .clear-usize3 .ensures) })
+returns c =
+    let clear-usize3 = c .before .before .clear-usize3 in
+    let clear-usize2 = c .before .before .before .before .before .before .clear-usize2 in
+    let clear-usize = c .before .before .before .before .before .before .before .before .before .before .clear-usize in
+    let clear-load = c .before .before .before .before .before .before .before .before .before .before .before .before .before .before .before .before .before .before .before .before .before .before .clear-load
+    in
+    let judge = c .before .before .before .before .before .before .before .before .before .before .before .before .before .before .before .before .before .before .before .before .before .before .before .before .before .before .before .before .before .before .before .before .before .before .before .before .before .before .before .before .before .before .before .before .judge
+    in (
+      (judge .ensures),
+      record {
+        loading = (clear-load .ensures);
+        heights = (clear-usize .ensures);
+        depths = (clear-usize2 .ensures);
+        todo =
+            (clear-usize3 .ensures);
+      },
+    )
 
 pub check-spec : {M : Type 1} → statement M
 check-spec =

@@ -9,22 +9,35 @@ slice-relend-prefix-check-image : tie.Need-slice-relend-prefix-check-image
 slice-relend-prefix-check-image c = search needs
 
 slice-aggregate-check-image : tie.Need-slice-aggregate-check-image
-slice-aggregate-check-image c = sym (length-take-le 4096 (c .before .before .before .before .before .before .before .args .heights .now) (c .before .before .before .before .before .before .before .pre .heights))
+slice-aggregate-check-image c =
+    let args = c .before .before .before .before .before .before .before .args in
+    let pre = c .before .before .before .before .before .before .before .pre in
+    sym (length-take-le 4096 (args .heights .now) (pre .heights))
 
 slice-relend-prefix-check-image-2 : tie.Need-slice-relend-prefix-check-image-2
 slice-relend-prefix-check-image-2 c = search needs
 
 slice-aggregate-check-image-2 : tie.Need-slice-aggregate-check-image-2
-slice-aggregate-check-image-2 c = sym (length-take-le 4096 (c .before .before .before .before .before .before .before .before .args .depths .now) (c .before .before .before .before .before .before .before .before .pre .depths))
+slice-aggregate-check-image-2 c =
+    let args = c .before .before .before .before .before .before .before .before .args in
+    let pre = c .before .before .before .before .before .before .before .before .pre in
+    sym (length-take-le 4096 (args .depths .now) (pre .depths))
 
 slice-relend-prefix-check-image-3 : tie.Need-slice-relend-prefix-check-image-3
 slice-relend-prefix-check-image-3 c = search needs
 
 slice-aggregate-check-image-3 : tie.Need-slice-aggregate-check-image-3
-slice-aggregate-check-image-3 c = sym (length-take-le 4096 (c .before .before .before .before .before .before .before .before .before .args .todo .now) (c .before .before .before .before .before .before .before .before .before .pre .todo))
+slice-aggregate-check-image-3 c =
+    let args = c .before .before .before .before .before .before .before .before .before .args in
+    let pre = c .before .before .before .before .before .before .before .before .before .pre in
+    sym (length-take-le 4096 (args .todo .now) (pre .todo))
 
 check-image-requires : tie.Need-check-image-requires
-check-image-requires c κs = lent (c .before .before .before .before .before .before .before .before .before .pre) (length-take-le 4096 (c .before .before .before .before .before .before .before .before .before .args .heights .now) (c .before .before .before .before .before .before .before .before .before .pre .heights)) (length-take-le 4096 (c .before .before .before .before .before .before .before .before .before .args .depths .now) (c .before .before .before .before .before .before .before .before .before .pre .depths)) (length-take-le 4096 (c .before .before .before .before .before .before .before .before .before .args .todo .now) (c .before .before .before .before .before .before .before .before .before .pre .todo))
+check-image-requires c κs =
+    let args = c .before .before .before .before .before .before .before .before .before .args in
+    let pre = c .before .before .before .before .before .before .before .before .before .pre in
+    lent pre (length-take-le 4096 (args .heights .now) (pre .heights)) (length-take-le 4096 (args .depths .now) (pre .depths)) (length-take-le 4096
+    (args .todo .now) (pre .todo))
 
 enum-told : tie.Need-enum-told
 enum-told c = search needs
@@ -42,7 +55,9 @@ same-length-3 : tie.Need-same-length-3
 same-length-3 c = search needs
 
 returns : tie.Need-returns
-returns c = passes-judged (c .before .before .before .before .before .before .before .before .check-image .result) (c .enum-told .given .1) ((c .before .before .before .before .before .before .before .before .check-image .ensures) .0)
+returns c =
+    let check-image = c .before .before .before .before .before .before .before .before .check-image in
+    passes-judged (check-image .result) (c .enum-told .given .1) ((check-image .ensures) .0)
 
 same-length-4 : tie.Need-same-length-4
 same-length-4 c = search needs
@@ -54,7 +69,9 @@ same-length-6 : tie.Need-same-length-6
 same-length-6 c = search needs
 
 returns-2 : tie.Need-returns-2
-returns-2 c = fault-judged (c .before .before .before .before .before .before .before .before .before .check-image .result) _ _ _ (c .before .why .given .1) ((c .before .before .before .before .before .before .before .before .before .check-image .ensures) .0)
+returns-2 c =
+    let check-image = c .before .before .before .before .before .before .before .before .before .check-image in
+    fault-judged (check-image .result) _ _ _ (c .before .why .given .1) ((check-image .ensures) .0)
 
 pub check-loaded-spec : {M : Type 1} → statement M
 check-loaded-spec =

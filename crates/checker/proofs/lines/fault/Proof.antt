@@ -41,10 +41,20 @@ same-length c = search needs
 
 returns : tie.Need-returns
 returns c =
-    let o = then ((c .before .before .before .before .before .before .before .put-padded2 .ensures) .0) (c .before .before .put4 .ensures) in
-    let k = then ((c .before .before .before .before .before .before .before .before .before .before .before .before .before .before .before .before .put-padded .ensures) .0) (then (c .before .before .before .before .before .before .before .before .before .before .before .put3 .ensures) o) in
-    let n = then ((c .before .before .before .before .before .before .before .before .before .before .before .before .before .before .before .before .before .before .before .before .before .before .before .before .before .put-decimal .ensures) .0) (then (c .before .before .before .before .before .before .before .before .before .before .before .before .before .before .before .before .before .before .before .before .put2 .ensures) k) in
-    let all = then (c .before .before .before .before .before .before .before .before .before .before .before .before .before .before .before .before .before .before .before .before .before .before .before .before .before .before .before .before .before .put .ensures) n in
+    let put4 = c .before .before .put4 in
+    let put-padded2 = c .before .before .before .before .before .before .before .put-padded2 in
+    let put3 = c .before .before .before .before .before .before .before .before .before .before .before .put3 in
+    let put-padded = c .before .before .before .before .before .before .before .before .before .before .before .before .before .before .before .before .put-padded in
+    let put2 = c .before .before .before .before .before .before .before .before .before .before .before .before .before .before .before .before .before .before .before .before .put2
+    in
+    let put-decimal = c .before .before .before .before .before .before .before .before .before .before .before .before .before .before .before .before .before .before .before .before .before .before .before .before .before .put-decimal
+    in
+    let put = c .before .before .before .before .before .before .before .before .before .before .before .before .before .before .before .before .before .before .before .before .before .before .before .before .before .before .before .before .before .put
+    in
+    let o = then ((put-padded2 .ensures) .0) (put4 .ensures) in
+    let k = then ((put-padded .ensures) .0) (then (put3 .ensures) o) in
+    let n = then ((put-decimal .ensures) .0) (then (put2 .ensures) k) in
+    let all = then (put .ensures) n in
     all
 
 pub fault-spec : {M : Type 1} → statement M

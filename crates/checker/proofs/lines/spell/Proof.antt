@@ -34,19 +34,33 @@ same-length : tie.Need-same-length
 same-length c = search needs
 
 returns : tie.Need-returns
-returns c = refused-line (c .before .before .before .before .before .before .before .before .before .args .a) _ _ _ (c .before .before .before .before .before .before .a .given .1) (c .before .before .before .refusal-number .ensures) (c .before .before .put-refused .ensures)
+returns c =
+    let put-refused = c .before .before .put-refused in
+    let refusal-number = c .before .before .before .refusal-number in
+    let a = c .before .before .before .before .before .before .a in
+    let args = c .before .before .before .before .before .before .before .before .before .args in
+    refused-line (args .a) _ _ _ (a .given .1) (refusal-number .ensures) (put-refused .ensures)
 
 same-length-2 : tie.Need-same-length-2
 same-length-2 c = search needs
 
 returns-2 : tie.Need-returns-2
-returns-2 c = pass-line (c .before .before .before .before .before .before .before .before .args .a) (c .before .before .before .before .before .enum-told .given .1) (c .before .before .put .ensures)
+returns-2 c =
+    let put = c .before .before .put in
+    let enum-told2 = c .before .before .before .before .before .enum-told in
+    let args = c .before .before .before .before .before .before .before .before .args in
+    pass-line (args .a) (enum-told2 .given .1) (put .ensures)
 
 same-length-3 : tie.Need-same-length-3
 same-length-3 c = search needs
 
 returns-3 : tie.Need-returns-3
-returns-3 c = fault-line (c .before .before .before .before .before .before .before .before .before .args .a) _ _ _ _ (c .before .before .before .before .before .before .a2 .given .1) (c .before .before .before .fault-number .ensures) (c .before .before .fault .ensures)
+returns-3 c =
+    let fault = c .before .before .fault in
+    let fault-number = c .before .before .before .fault-number in
+    let a2 = c .before .before .before .before .before .before .a2 in
+    let args = c .before .before .before .before .before .before .before .before .before .args in
+    fault-line (args .a) _ _ _ _ (a2 .given .1) (fault-number .ensures) (fault .ensures)
 
 pub spell-spec : {M : Type 1} → statement M
 spell-spec =

@@ -28,16 +28,32 @@ checked-requires-3 : tie.Need-checked-requires-3
 checked-requires-3 c κs = search needs
 
 returns : tie.Need-returns
-returns c = (c .checked .ensures) ∙ sym (ap (checked (c .before .before .before .args .kind)) (sum-same (c .before .before .before .args .a .negative) (c .before .before .before .args .b .negative) (c .before .before .before .args .a .magnitude) (c .before .before .before .args .b .magnitude) (c .before .before .if1 .taken)))
+returns c =
+    let if1 = c .before .before .if1 in
+    let args = c .before .before .before .args in
+    (c .checked .ensures) ∙ sym (ap (checked (args .kind)) (sum-same (args .a .negative) (args .b .negative) (args .a .magnitude) (args .b .magnitude)
+    (if1 .taken)))
 
 returns-2 : tie.Need-returns-2
-returns-2 c = let h : 2 ^ 64 ≤ (c .before .before .args .a .magnitude) + (c .before .before .args .b .magnitude) = omega arith in sym (ap (checked (c .before .before .args .kind)) (sum-same (c .before .before .args .a .negative) (c .before .before .args .b .negative) (c .before .before .args .a .magnitude) (c .before .before .args .b .magnitude) (c .before .if1 .taken)) ∙ beyond (c .before .before .args .kind) (c .before .before .args .a .negative) ((c .before .before .args .a .magnitude) + (c .before .before .args .b .magnitude)) h)
+returns-2 c =
+    let args = c .before .before .args in
+    let h : 2 ^ 64 ≤ (args .a .magnitude) + (args .b .magnitude) = omega arith in sym (ap (checked (args .kind)) (sum-same (args .a .negative) (args .b .negative)
+    (args .a .magnitude) (args .b .magnitude) (c .before .if1 .taken)) ∙ beyond (args .kind) (args .a .negative) ((args .a .magnitude) + (args .b .magnitude))
+    h)
 
 returns-3 : tie.Need-returns-3
-returns-3 c = (c .checked2 .ensures) ∙ sym (ap (checked (c .before .before .before .args .kind)) (sum-other (c .before .before .before .args .a .negative) (c .before .before .before .args .b .negative) (c .before .before .before .args .a .magnitude) (c .before .before .before .args .b .magnitude) (c .before .before .if1 .left) (c .before .if3 .taken)))
+returns-3 c =
+    let if1 = c .before .before .if1 in
+    let args = c .before .before .before .args in
+    (c .checked2 .ensures) ∙ sym (ap (checked (args .kind)) (sum-other (args .a .negative) (args .b .negative) (args .a .magnitude) (args .b .magnitude)
+    (if1 .left) (c .before .if3 .taken)))
 
 returns-4 : tie.Need-returns-4
-returns-4 c = let h : (c .before .before .before .args .a .magnitude) ≤ (c .before .before .before .args .b .magnitude) = omega arith in (c .checked3 .ensures) ∙ sym (ap (checked (c .before .before .before .args .kind)) (sum-other' (c .before .before .before .args .a .negative) (c .before .before .before .args .b .negative) (c .before .before .before .args .a .magnitude) (c .before .before .before .args .b .magnitude) (c .before .before .if1 .left) h))
+returns-4 c =
+    let if1 = c .before .before .if1 in
+    let args = c .before .before .before .args in
+    let h : (args .a .magnitude) ≤ (args .b .magnitude) = omega arith in (c .checked3 .ensures) ∙ sym (ap (checked (args .kind)) (sum-other' (args .a .negative)
+    (args .b .negative) (args .a .magnitude) (args .b .magnitude) (if1 .left) h))
 
 pub add-integers-spec : {M : Type 1} → statement M
 add-integers-spec =

@@ -16,7 +16,9 @@ returns : tie.Need-returns
 returns c = sym (quot-zero (c .before .args .kind) (valueOf (c .before .args .a)) (c .before .args .b .negative) (c .before .args .b .magnitude) (c .if1 .taken))
 
 returns-2 : tie.Need-returns-2
-returns-2 c = (c .checked .ensures) ∙ sym (quot-is (c .before .before .args .kind) (c .before .before .args .a .negative) (c .before .before .args .b .negative) (c .before .before .args .a .magnitude) (c .before .before .args .b .magnitude) (c .before .if1 .left))
+returns-2 c =
+    let args = c .before .before .args in
+    (c .checked .ensures) ∙ sym (quot-is (args .kind) (args .a .negative) (args .b .negative) (args .a .magnitude) (args .b .magnitude) (c .before .if1 .left))
 
 pub div-integers-spec : {M : Type 1} → statement M
 div-integers-spec = tie.close (tie.spec div-t11 checked-requires returns returns-2)

@@ -13,22 +13,33 @@ checked-requires : tie.Need-checked-requires
 checked-requires c κs = search needs
 
 returns : tie.Need-returns
-returns c = (c .checked .ensures) ∙ sym (ap (checked (c .before .before .args .kind)) (product-zero (c .before .before .args .a .negative) (c .before .before .args .b .negative) (c .before .before .args .a .magnitude) (c .before .before .args .b .magnitude) (c .before .if1 .taken)))
+returns c =
+    let args = c .before .before .args in
+    (c .checked .ensures) ∙ sym (ap (checked (args .kind)) (product-zero (args .a .negative) (args .b .negative) (args .a .magnitude) (args .b .magnitude)
+    (c .before .if1 .taken)))
 
 div-if2 : tie.Need-div-if2
 div-if2 c = search needs
 
 mul-t13 : tie.Need-mul-t13
-mul-t13 c = record { fits = product-fits (c .before .before .args .a .magnitude) (c .before .before .args .b .magnitude) (positive (c .before .before .args .a .magnitude) (c .before .if1 .left)) (c .if2 .taken) }
+mul-t13 c =
+    let args = c .before .before .args in
+    record { fits = product-fits (args .a .magnitude) (args .b .magnitude) (positive (args .a .magnitude) (c .before .if1 .left)) (c .if2 .taken) }
 
 checked-requires-2 : tie.Need-checked-requires-2
 checked-requires-2 c κs = search needs
 
 returns-2 : tie.Need-returns-2
-returns-2 c = (c .checked2 .ensures) ∙ sym (ap (checked (c .before .before .before .args .kind)) (product (c .before .before .before .args .a .negative) (c .before .before .before .args .b .negative) (c .before .before .before .args .a .magnitude) (c .before .before .before .args .b .magnitude)))
+returns-2 c =
+    let args = c .before .before .before .args in
+    (c .checked2 .ensures) ∙ sym (ap (checked (args .kind)) (product (args .a .negative) (args .b .negative) (args .a .magnitude) (args .b .magnitude)))
 
 returns-3 : tie.Need-returns-3
-returns-3 c = sym (ap (checked (c .before .before .args .kind)) (product (c .before .before .args .a .negative) (c .before .before .args .b .negative) (c .before .before .args .a .magnitude) (c .before .before .args .b .magnitude)) ∙ beyond (c .before .before .args .kind) (unlike (c .before .before .args .a .negative) (c .before .before .args .b .negative)) ((c .before .before .args .a .magnitude) * (c .before .before .args .b .magnitude)) (product-past (c .before .before .args .a .magnitude) (c .before .before .args .b .magnitude) (positive (c .before .before .args .a .magnitude) (c .before .if1 .left)) (c .if2 .left)))
+returns-3 c =
+    let args = c .before .before .args in
+    sym (ap (checked (args .kind)) (product (args .a .negative) (args .b .negative) (args .a .magnitude) (args .b .magnitude)) ∙ beyond (args .kind)
+    (unlike (args .a .negative) (args .b .negative)) ((args .a .magnitude) * (args .b .magnitude)) (product-past (args .a .magnitude) (args .b .magnitude)
+    (positive (args .a .magnitude) (c .before .if1 .left)) (c .if2 .left)))
 
 pub mul-integers-spec : {M : Type 1} → statement M
 mul-integers-spec =

@@ -5,28 +5,48 @@ use Rattle.number_arithmetic.proofs.arithmetic.sub_int.Statement.{state
 use Rattle.number_arithmetic.proofs.arithmetic.sub_int.Tie as tie
 
 add-if2 : tie.Need-add-if2
-add-if2 c = difference-down (c .before .args .x) (c .before .args .y) _ _ (toZ-ofZ (c .before .fits .x)) (toZ-ofZ (c .before .fits .y)) (c .before .fits .x) (c .before .fits .y) (c .if1 .taken) .edge-fits
+add-if2 c = difference-down (c .before .args .x) (c .before .args .y) _ _ (toZ-ofZ (c .before .fits .x)) (toZ-ofZ (c .before .fits .y)) (c .before .fits .x)
+    (c .before .fits .y) (c .if1 .taken) .edge-fits
 
 sub-t8 : tie.Need-sub-t8
-sub-t8 c = difference-down (c .before .before .args .x) (c .before .before .args .y) _ _ (toZ-ofZ (c .before .before .fits .x)) (toZ-ofZ (c .before .before .fits .y)) (c .before .before .fits .x) (c .before .before .fits .y) (c .before .if1 .taken) .fits (c .if2 .taken)
+sub-t8 c =
+    let args = c .before .before .args in
+    let fits = c .before .before .fits in
+    difference-down (args .x) (args .y) _ _ (toZ-ofZ (fits .x)) (toZ-ofZ (fits .y)) (fits .x) (fits .y) (c .before .if1 .taken) .fits (c .if2 .taken)
 
 add-if3 : tie.Need-add-if3
-add-if3 c = difference-up (c .before .args .x) (c .before .args .y) _ _ (toZ-ofZ (c .before .fits .x)) (toZ-ofZ (c .before .fits .y)) (c .before .fits .x) (c .before .fits .y) (c .if1 .left) .edge-fits
+add-if3 c = difference-up (c .before .args .x) (c .before .args .y) _ _ (toZ-ofZ (c .before .fits .x)) (toZ-ofZ (c .before .fits .y)) (c .before .fits .x)
+    (c .before .fits .y) (c .if1 .left) .edge-fits
 
 sub-t13 : tie.Need-sub-t13
-sub-t13 c = difference-up (c .before .before .args .x) (c .before .before .args .y) _ _ (toZ-ofZ (c .before .before .fits .x)) (toZ-ofZ (c .before .before .fits .y)) (c .before .before .fits .x) (c .before .before .fits .y) (c .before .if1 .left) .fits (c .if3 .taken)
+sub-t13 c =
+    let args = c .before .before .args in
+    let fits = c .before .before .fits in
+    difference-up (args .x) (args .y) _ _ (toZ-ofZ (fits .x)) (toZ-ofZ (fits .y)) (fits .x) (fits .y) (c .before .if1 .left) .fits (c .if3 .taken)
 
 returns : tie.Need-returns
-returns c = difference-down (c .before .before .args .x) (c .before .before .args .y) _ _ (toZ-ofZ (c .before .before .fits .x)) (toZ-ofZ (c .before .before .fits .y)) (c .before .before .fits .x) (c .before .before .fits .y) (c .before .if1 .taken) .exact (c .if2 .taken)
+returns c =
+    let args = c .before .before .args in
+    let fits = c .before .before .fits in
+    difference-down (args .x) (args .y) _ _ (toZ-ofZ (fits .x)) (toZ-ofZ (fits .y)) (fits .x) (fits .y) (c .before .if1 .taken) .exact (c .if2 .taken)
 
 returns-2 : tie.Need-returns-2
-returns-2 c = difference-down (c .before .before .args .x) (c .before .before .args .y) _ _ (toZ-ofZ (c .before .before .fits .x)) (toZ-ofZ (c .before .before .fits .y)) (c .before .before .fits .x) (c .before .before .fits .y) (c .before .if1 .taken) .over (c .if2 .left)
+returns-2 c =
+    let args = c .before .before .args in
+    let fits = c .before .before .fits in
+    difference-down (args .x) (args .y) _ _ (toZ-ofZ (fits .x)) (toZ-ofZ (fits .y)) (fits .x) (fits .y) (c .before .if1 .taken) .over (c .if2 .left)
 
 returns-3 : tie.Need-returns-3
-returns-3 c = difference-up (c .before .before .args .x) (c .before .before .args .y) _ _ (toZ-ofZ (c .before .before .fits .x)) (toZ-ofZ (c .before .before .fits .y)) (c .before .before .fits .x) (c .before .before .fits .y) (c .before .if1 .left) .exact (c .if3 .taken)
+returns-3 c =
+    let args = c .before .before .args in
+    let fits = c .before .before .fits in
+    difference-up (args .x) (args .y) _ _ (toZ-ofZ (fits .x)) (toZ-ofZ (fits .y)) (fits .x) (fits .y) (c .before .if1 .left) .exact (c .if3 .taken)
 
 returns-4 : tie.Need-returns-4
-returns-4 c = difference-up (c .before .before .args .x) (c .before .before .args .y) _ _ (toZ-ofZ (c .before .before .fits .x)) (toZ-ofZ (c .before .before .fits .y)) (c .before .before .fits .x) (c .before .before .fits .y) (c .before .if1 .left) .over (c .if3 .left)
+returns-4 c =
+    let args = c .before .before .args in
+    let fits = c .before .before .fits in
+    difference-up (args .x) (args .y) _ _ (toZ-ofZ (fits .x)) (toZ-ofZ (fits .y)) (fits .x) (fits .y) (c .before .if1 .left) .over (c .if3 .left)
 
 pub sub-int-spec : {M : Type 1} → statement M
 sub-int-spec =

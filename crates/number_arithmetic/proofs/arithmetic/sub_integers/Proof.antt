@@ -12,7 +12,8 @@ add-integers-requires : tie.Need-add-integers-requires
 add-integers-requires c κs = search needs
 
 returns : tie.Need-returns
-returns c = (c .add-integers .ensures) ∙ ap (λ (z : ℤ). checked (c .before .args .kind) (valueOf (c .before .args .a) +ℤ z)) (neg-signed (c .before .args .b .negative) (c .before .args .b .magnitude))
+returns c = (c .add-integers .ensures) ∙ ap (λ (z : ℤ). checked (c .before .args .kind) (valueOf (c .before .args .a) +ℤ z)) (neg-signed (c .before .args .b .negative)
+    (c .before .args .b .magnitude))
 
 pub sub-integers-spec : {M : Type 1} → statement M
 sub-integers-spec = tie.close (tie.spec add-integers-requires returns)

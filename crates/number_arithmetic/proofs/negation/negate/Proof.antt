@@ -40,19 +40,36 @@ enum-known-x-2 c = search needs
 
 returns : tie.Need-returns
 unfolding negateOf
-returns c = serves (c .before .before .before .before .k .given .0 .0) (valueOf (c .before .before .before .before .k .given .0 .1 .0)) (sym (c .before .before .is-signed .ensures) ∙ (c .before .if1 .taken)) (c .negate-wrapping .ensures) ∙ ap negateScalar (stands (c .before .before .before .before .before .before .before .args .a) (c .before .before .before .before .before .before .operand-of .result) (c .before .before .before .before .before .before .operand-of .ensures) (c .before .before .before .before .k .given .1))
+returns c =
+    let is-signed = c .before .before .is-signed in
+    let k2 = c .before .before .before .before .k in
+    let operand-of = c .before .before .before .before .before .before .operand-of in
+    let args = c .before .before .before .before .before .before .before .args in
+    serves (k2 .given .0 .0) (valueOf (k2 .given .0 .1 .0)) (sym (is-signed .ensures) ∙ (c .before .if1 .taken)) (c .negate-wrapping .ensures) ∙ ap
+    negateScalar (stands (args .a) (operand-of .result) (operand-of .ensures) (k2 .given .1))
 
 returns-2 : tie.Need-returns-2
 unfolding negateOf
-returns-2 c = serves-not (c .before .before .before .k .given .0 .0) (valueOf (c .before .before .before .k .given .0 .1 .0)) (sym (c .before .is-signed .ensures) ∙ (c .if1 .left)) ∙ ap negateScalar (stands (c .before .before .before .before .before .before .args .a) (c .before .before .before .before .before .operand-of .result) (c .before .before .before .before .before .operand-of .ensures) (c .before .before .before .k .given .1))
+returns-2 c =
+    let k2 = c .before .before .before .k in
+    let operand-of = c .before .before .before .before .before .operand-of in
+    let args = c .before .before .before .before .before .before .args in
+    serves-not (k2 .given .0 .0) (valueOf (k2 .given .0 .1 .0)) (sym (c .before .is-signed .ensures) ∙ (c .if1 .left)) ∙ ap negateScalar (stands (args .a)
+    (operand-of .result) (operand-of .ensures) (k2 .given .1))
 
 returns-3 : tie.Need-returns-3
 unfolding negateOf
-returns-3 c = ap negateScalar (stands (c .before .before .before .before .args .a) (c .before .before .before .operand-of .result) (c .before .before .before .operand-of .ensures) (c .before .x .given .1))
+returns-3 c =
+    let operand-of = c .before .before .before .operand-of in
+    let args = c .before .before .before .before .args in
+    ap negateScalar (stands (args .a) (operand-of .result) (operand-of .ensures) (c .before .x .given .1))
 
 returns-4 : tie.Need-returns-4
 unfolding negateOf
-returns-4 c = ap negateScalar (stands (c .before .before .before .before .args .a) (c .before .before .before .operand-of .result) (c .before .before .before .operand-of .ensures) (c .before .x2 .given .1))
+returns-4 c =
+    let operand-of = c .before .before .before .operand-of in
+    let args = c .before .before .before .before .args in
+    ap negateScalar (stands (args .a) (operand-of .result) (operand-of .ensures) (c .before .x2 .given .1))
 
 pub negate-spec : {M : Type 1} → statement M
 negate-spec =

@@ -33,10 +33,16 @@ number-of-word-requires : tie.Need-number-of-word-requires
 number-of-word-requires c κs = search needs
 
 returns : tie.Need-returns
-returns c = exact (c .before .before .before .before .args .kind) (valueOf (c .before .before .before .before .args .x)) (c .before .word-of .ensures) (sym (c .before .before .before .in-range .ensures) ∙ (c .before .before .if1 .taken)) (c .number-of-word .ensures)
+returns c =
+    let if1 = c .before .before .if1 in
+    let in-range = c .before .before .before .in-range in
+    let args = c .before .before .before .before .args in
+    exact (args .kind) (valueOf (args .x)) (c .before .word-of .ensures) (sym (in-range .ensures) ∙ (if1 .taken)) (c .number-of-word .ensures)
 
 returns-2 : tie.Need-returns-2
-returns-2 c = over (c .before .before .args .kind) (valueOf (c .before .before .args .x)) (sym (c .before .in-range .ensures) ∙ (c .if1 .left))
+returns-2 c =
+    let args = c .before .before .args in
+    over (args .kind) (valueOf (args .x)) (sym (c .before .in-range .ensures) ∙ (c .if1 .left))
 
 pub checked-spec : {M : Type 1} → statement M
 checked-spec =

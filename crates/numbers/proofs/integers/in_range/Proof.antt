@@ -15,10 +15,15 @@ greatest-of-requires : tie.Need-greatest-of-requires
 greatest-of-requires c κs = search needs
 
 returns : tie.Need-returns
-returns c = ap (leb (c .before .before .args .x .magnitude)) (c .least-magnitude .ensures) ∙ in-range-neg (c .before .before .args .kind) (c .before .before .args .x .magnitude) ∙ sym (ap (inRange (c .before .before .args .kind)) (value-neg (c .before .before .args .x) (c .before .if1 .taken)))
+returns c =
+    let args = c .before .before .args in
+    ap (leb (args .x .magnitude)) (c .least-magnitude .ensures) ∙ in-range-neg (args .kind) (args .x .magnitude) ∙ sym (ap (inRange (args .kind))
+    (value-neg (args .x) (c .before .if1 .taken)))
 
 returns-2 : tie.Need-returns-2
-returns-2 c = ap (leb (c .before .before .args .x .magnitude)) (c .greatest-of .ensures) ∙ sym (ap (inRange (c .before .before .args .kind)) (value-pos (c .before .before .args .x) (c .before .if1 .left)))
+returns-2 c =
+    let args = c .before .before .args in
+    ap (leb (args .x .magnitude)) (c .greatest-of .ensures) ∙ sym (ap (inRange (args .kind)) (value-pos (args .x) (c .before .if1 .left)))
 
 pub in-range-spec : {M : Type 1} → statement M
 in-range-spec =

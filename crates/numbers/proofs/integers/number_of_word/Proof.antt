@@ -73,7 +73,8 @@ i16-of-word-requires c κs = search needs
 
 returns : tie.Need-returns
 unfolding wrapping
-returns c = at (c .before .before .before .args .n) (c .before .enum-told .given .1) (ap Int (toZ-ofZ {w = w64} {z = (c .i64-of-word .result)} (search needs) ∙ (c .i64-of-word .ensures) ∙ ap (twosComplement 63) (word-pos (c .before .before .before .args .n) (search needs))))
+returns c = at (c .before .before .before .args .n) (c .before .enum-told .given .1) (ap Int (toZ-ofZ {w = w64} {z = (c .i64-of-word .result)} (search
+    needs) ∙ (c .i64-of-word .ensures) ∙ ap (twosComplement 63) (word-pos (c .before .before .before .args .n) (search needs))))
 
 returns-2 : tie.Need-returns-2
 unfolding wrapping
@@ -81,27 +82,36 @@ returns-2 c = at (c .before .before .args .n) (c .enum-told2 .given .1) (ap UInt
 
 returns-3 : tie.Need-returns-3
 unfolding wrapping
-returns-3 c = at (c .before .before .before .args .n) (c .before .enum-told3 .given .1) (ap SInt (toZ-ofZ {w = w32} {z = (c .i32-of-word .result)} (search needs) ∙ (c .i32-of-word .ensures)))
+returns-3 c = at (c .before .before .before .args .n) (c .before .enum-told3 .given .1) (ap SInt (toZ-ofZ {w = w32} {z = (c .i32-of-word .result)}
+    (search needs) ∙ (c .i32-of-word .ensures)))
 
 returns-4 : tie.Need-returns-4
 unfolding wrapping
-returns-4 c = at (c .before .before .args .n) (c .enum-told4 .given .1) refl
+returns-4 c =
+    let args = c .before .before .args in
+    at (args .n) (c .enum-told4 .given .1) refl
 
 returns-5 : tie.Need-returns-5
 unfolding wrapping
-returns-5 c = at (c .before .before .args .n) (c .enum-told5 .given .1) refl
+returns-5 c =
+    let args = c .before .before .args in
+    at (args .n) (c .enum-told5 .given .1) refl
 
 returns-6 : tie.Need-returns-6
 unfolding wrapping
-returns-6 c = at (c .before .before .before .args .n) (c .before .enum-told6 .given .1) (ap SByte (toZ-ofZ {w = w8} {z = (c .i8-of-word .result)} (search needs) ∙ (c .i8-of-word .ensures)))
+returns-6 c = at (c .before .before .before .args .n) (c .before .enum-told6 .given .1) (ap SByte (toZ-ofZ {w = w8} {z = (c .i8-of-word .result)}
+    (search needs) ∙ (c .i8-of-word .ensures)))
 
 returns-7 : tie.Need-returns-7
 unfolding wrapping
-returns-7 c = at (c .before .before .args .n) (c .enum-told7 .given .1) refl
+returns-7 c =
+    let args = c .before .before .args in
+    at (args .n) (c .enum-told7 .given .1) refl
 
 returns-8 : tie.Need-returns-8
 unfolding wrapping
-returns-8 c = at (c .before .before .before .args .n) (c .before .enum-told8 .given .1) (ap BSByte (toZ-ofZ {w = w16} {z = (c .i16-of-word .result)} (search needs) ∙ (c .i16-of-word .ensures)))
+returns-8 c = at (c .before .before .before .args .n) (c .before .enum-told8 .given .1) (ap BSByte (toZ-ofZ {w = w16} {z = (c .i16-of-word .result)}
+    (search needs) ∙ (c .i16-of-word .ensures)))
 
 pub number-of-word-spec : {M : Type 1} → statement M
 number-of-word-spec =

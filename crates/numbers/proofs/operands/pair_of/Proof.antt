@@ -54,34 +54,90 @@ enum-known-y-3 : tie.Need-enum-known-y-3
 enum-known-y-3 c = search needs
 
 returns : tie.Need-returns
-returns c = same (c .before .before .before .before .before .before .before .x .given .0 .0) (c .before .before .before .before .y .given .0 .0) (c .before .before .before .before .before .before .before .x .given .0 .1 .0) (c .before .before .before .before .y .given .0 .1 .0) (c .before .before .int-kind-code .ensures) (c .before .int-kind-code2 .ensures) (c .if1 .taken) ∙ joined (c .before .before .before .before .before .before .before .before .before .before .before .args .a) (c .before .before .before .before .before .before .before .before .before .before .before .args .b) (c .before .before .before .before .before .before .before .before .before .before .operand-of .result) (c .before .before .before .before .before .before .before .before .before .operand-of2 .result) (c .before .before .before .before .before .before .before .before .before .before .operand-of .ensures) (c .before .before .before .before .before .before .before .before .before .operand-of2 .ensures) (c .before .before .before .before .before .before .before .x .given .1) (c .before .before .before .before .y .given .1)
+returns c =
+    let int-kind-code = c .before .before .int-kind-code in
+    let y = c .before .before .before .before .y in
+    let x = c .before .before .before .before .before .before .before .x in
+    let operand-of2 = c .before .before .before .before .before .before .before .before .before .operand-of2 in
+    let operand-of = c .before .before .before .before .before .before .before .before .before .before .operand-of in
+    let args = c .before .before .before .before .before .before .before .before .before .before .before .args in
+    same (x .given .0 .0) (y .given .0 .0) (x .given .0 .1 .0) (y .given .0 .1 .0) (int-kind-code .ensures) (c .before .int-kind-code2 .ensures) (c .if1 .taken)
+    ∙ joined (args .a) (args .b) (operand-of .result) (operand-of2 .result) (operand-of .ensures) (operand-of2 .ensures) (x .given .1) (y .given .1)
 
 returns-2 : tie.Need-returns-2
-returns-2 c = other (c .before .before .before .before .before .before .before .x .given .0 .0) (c .before .before .before .before .y .given .0 .0) (c .before .before .before .before .before .before .before .x .given .0 .1 .0) (c .before .before .before .before .y .given .0 .1 .0) (c .before .before .int-kind-code .ensures) (c .before .int-kind-code2 .ensures) (c .if1 .left) ∙ joined (c .before .before .before .before .before .before .before .before .before .before .before .args .a) (c .before .before .before .before .before .before .before .before .before .before .before .args .b) (c .before .before .before .before .before .before .before .before .before .before .operand-of .result) (c .before .before .before .before .before .before .before .before .before .operand-of2 .result) (c .before .before .before .before .before .before .before .before .before .before .operand-of .ensures) (c .before .before .before .before .before .before .before .before .before .operand-of2 .ensures) (c .before .before .before .before .before .before .before .x .given .1) (c .before .before .before .before .y .given .1)
+returns-2 c =
+    let int-kind-code = c .before .before .int-kind-code in
+    let y = c .before .before .before .before .y in
+    let x = c .before .before .before .before .before .before .before .x in
+    let operand-of2 = c .before .before .before .before .before .before .before .before .before .operand-of2 in
+    let operand-of = c .before .before .before .before .before .before .before .before .before .before .operand-of in
+    let args = c .before .before .before .before .before .before .before .before .before .before .before .args in
+    other (x .given .0 .0) (y .given .0 .0) (x .given .0 .1 .0) (y .given .0 .1 .0) (int-kind-code .ensures) (c .before .int-kind-code2 .ensures) (c .if1 .left)
+    ∙ joined (args .a) (args .b) (operand-of .result) (operand-of2 .result) (operand-of .ensures) (operand-of2 .ensures) (x .given .1) (y .given .1)
 
 returns-3 : tie.Need-returns-3
-returns-3 c = joined (c .before .before .before .before .before .before .before .args .a) (c .before .before .before .before .before .before .before .args .b) (c .before .before .before .before .before .before .operand-of .result) (c .before .before .before .before .before .operand-of2 .result) (c .before .before .before .before .before .before .operand-of .ensures) (c .before .before .before .before .before .operand-of2 .ensures) (c .before .before .before .x .given .1) (c .enum-told .given .1)
+returns-3 c =
+    let x = c .before .before .before .x in
+    let operand-of2 = c .before .before .before .before .before .operand-of2 in
+    let operand-of = c .before .before .before .before .before .before .operand-of in
+    let args = c .before .before .before .before .before .before .before .args in
+    joined (args .a) (args .b) (operand-of .result) (operand-of2 .result) (operand-of .ensures) (operand-of2 .ensures) (x .given .1) (c .enum-told .given .1)
 
 returns-4 : tie.Need-returns-4
-returns-4 c = joined (c .before .before .before .before .before .before .before .args .a) (c .before .before .before .before .before .before .before .args .b) (c .before .before .before .before .before .before .operand-of .result) (c .before .before .before .before .before .operand-of2 .result) (c .before .before .before .before .before .before .operand-of .ensures) (c .before .before .before .before .before .operand-of2 .ensures) (c .before .before .before .x .given .1) (c .enum-told2 .given .1)
+returns-4 c =
+    let x = c .before .before .before .x in
+    let operand-of2 = c .before .before .before .before .before .operand-of2 in
+    let operand-of = c .before .before .before .before .before .before .operand-of in
+    let args = c .before .before .before .before .before .before .before .args in
+    joined (args .a) (args .b) (operand-of .result) (operand-of2 .result) (operand-of .ensures) (operand-of2 .ensures) (x .given .1) (c .enum-told2 .given .1)
 
 returns-5 : tie.Need-returns-5
-returns-5 c = joined (c .before .before .before .before .before .before .before .args .a) (c .before .before .before .before .before .before .before .args .b) (c .before .before .before .before .before .before .operand-of .result) (c .before .before .before .before .before .operand-of2 .result) (c .before .before .before .before .before .before .operand-of .ensures) (c .before .before .before .before .before .operand-of2 .ensures) (c .before .before .before .x2 .given .1) (c .enum-told3 .given .1)
+returns-5 c =
+    let x2 = c .before .before .before .x2 in
+    let operand-of2 = c .before .before .before .before .before .operand-of2 in
+    let operand-of = c .before .before .before .before .before .before .operand-of in
+    let args = c .before .before .before .before .before .before .before .args in
+    joined (args .a) (args .b) (operand-of .result) (operand-of2 .result) (operand-of .ensures) (operand-of2 .ensures) (x2 .given .1) (c .enum-told3 .given .1)
 
 returns-6 : tie.Need-returns-6
-returns-6 c = joined (c .before .before .before .before .before .before .before .before .args .a) (c .before .before .before .before .before .before .before .before .args .b) (c .before .before .before .before .before .before .before .operand-of .result) (c .before .before .before .before .before .before .operand-of2 .result) (c .before .before .before .before .before .before .before .operand-of .ensures) (c .before .before .before .before .before .before .operand-of2 .ensures) (c .before .before .before .before .x2 .given .1) (c .before .y2 .given .1)
+returns-6 c =
+    let x2 = c .before .before .before .before .x2 in
+    let operand-of2 = c .before .before .before .before .before .before .operand-of2 in
+    let operand-of = c .before .before .before .before .before .before .before .operand-of in
+    let args = c .before .before .before .before .before .before .before .before .args in
+    joined (args .a) (args .b) (operand-of .result) (operand-of2 .result) (operand-of .ensures) (operand-of2 .ensures) (x2 .given .1) (c .before .y2 .given .1)
 
 returns-7 : tie.Need-returns-7
-returns-7 c = joined (c .before .before .before .before .before .before .before .args .a) (c .before .before .before .before .before .before .before .args .b) (c .before .before .before .before .before .before .operand-of .result) (c .before .before .before .before .before .operand-of2 .result) (c .before .before .before .before .before .before .operand-of .ensures) (c .before .before .before .before .before .operand-of2 .ensures) (c .before .before .before .x2 .given .1) (c .enum-told4 .given .1)
+returns-7 c =
+    let x2 = c .before .before .before .x2 in
+    let operand-of2 = c .before .before .before .before .before .operand-of2 in
+    let operand-of = c .before .before .before .before .before .before .operand-of in
+    let args = c .before .before .before .before .before .before .before .args in
+    joined (args .a) (args .b) (operand-of .result) (operand-of2 .result) (operand-of .ensures) (operand-of2 .ensures) (x2 .given .1) (c .enum-told4 .given .1)
 
 returns-8 : tie.Need-returns-8
-returns-8 c = joined (c .before .before .before .before .before .before .before .args .a) (c .before .before .before .before .before .before .before .args .b) (c .before .before .before .before .before .before .operand-of .result) (c .before .before .before .before .before .operand-of2 .result) (c .before .before .before .before .before .before .operand-of .ensures) (c .before .before .before .before .before .operand-of2 .ensures) (c .before .before .before .x3 .given .1) (c .enum-told5 .given .1)
+returns-8 c =
+    let x3 = c .before .before .before .x3 in
+    let operand-of2 = c .before .before .before .before .before .operand-of2 in
+    let operand-of = c .before .before .before .before .before .before .operand-of in
+    let args = c .before .before .before .before .before .before .before .args in
+    joined (args .a) (args .b) (operand-of .result) (operand-of2 .result) (operand-of .ensures) (operand-of2 .ensures) (x3 .given .1) (c .enum-told5 .given .1)
 
 returns-9 : tie.Need-returns-9
-returns-9 c = joined (c .before .before .before .before .before .before .before .args .a) (c .before .before .before .before .before .before .before .args .b) (c .before .before .before .before .before .before .operand-of .result) (c .before .before .before .before .before .operand-of2 .result) (c .before .before .before .before .before .before .operand-of .ensures) (c .before .before .before .before .before .operand-of2 .ensures) (c .before .before .before .x3 .given .1) (c .enum-told6 .given .1)
+returns-9 c =
+    let x3 = c .before .before .before .x3 in
+    let operand-of2 = c .before .before .before .before .before .operand-of2 in
+    let operand-of = c .before .before .before .before .before .before .operand-of in
+    let args = c .before .before .before .before .before .before .before .args in
+    joined (args .a) (args .b) (operand-of .result) (operand-of2 .result) (operand-of .ensures) (operand-of2 .ensures) (x3 .given .1) (c .enum-told6 .given .1)
 
 returns-10 : tie.Need-returns-10
-returns-10 c = joined (c .before .before .before .before .before .before .before .before .args .a) (c .before .before .before .before .before .before .before .before .args .b) (c .before .before .before .before .before .before .before .operand-of .result) (c .before .before .before .before .before .before .operand-of2 .result) (c .before .before .before .before .before .before .before .operand-of .ensures) (c .before .before .before .before .before .before .operand-of2 .ensures) (c .before .before .before .before .x3 .given .1) (c .before .y3 .given .1)
+returns-10 c =
+    let x3 = c .before .before .before .before .x3 in
+    let operand-of2 = c .before .before .before .before .before .before .operand-of2 in
+    let operand-of = c .before .before .before .before .before .before .before .operand-of in
+    let args = c .before .before .before .before .before .before .before .before .args in
+    joined (args .a) (args .b) (operand-of .result) (operand-of2 .result) (operand-of .ensures) (operand-of2 .ensures) (x3 .given .1) (c .before .y3 .given .1)
 
 pub pair-of-spec : {M : Type 1} → statement M
 pair-of-spec =

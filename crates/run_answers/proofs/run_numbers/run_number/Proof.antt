@@ -26,7 +26,9 @@ returns-2 : tie.Need-returns-2
 returns-2 c = search needs
 
 returns-3 : tie.Need-returns-3
-returns-3 c = (c .stop-number .ensures) ∙ sym (ap runNumber (c .before .before .a2 .given .1))
+returns-3 c =
+    let a2 = c .before .before .a2 in
+    (c .stop-number .ensures) ∙ sym (ap runNumber (a2 .given .1))
 
 pub run-number-spec : {M : Type 1} → statement M
 run-number-spec =

@@ -26,13 +26,41 @@ slice-aggregate-put-3 : tie.Need-slice-aggregate-put-3
 slice-aggregate-put-3 c = search needs
 
 put-requires-3 : tie.Need-put-requires-3
-put-requires-3 c κs = omega (arith, (c .before .before .before .before .before .before .before .before .before .before .before .before .before .before .before .before .before .before .before .before .before .before .pre), (c .before .before .before .before .before .before .before .before .before .before .before .before .before .before .before .before .before .put .kept .0), (c .before .before .before .before .before .before .before .before .before .before .before .before .before .before .before .before .before .put .ensures .to-is), (c .before .before .before .before .before .before .before .before .before .before .before .before .before .put-decimal .kept .0), (c .before .before .before .before .before .before .before .before .before .before .before .before .before .put-decimal .ensures .1), (c .before .before .before .before .before .before .before .before .put2 .kept .0), (c .before .before .before .before .before .before .before .before .put2 .ensures .to-is), (c .before .before .before .before .put-hex .kept .0), (c .before .before .before .before .put-hex .ensures .to-is), hex-length (c .before .before .before .before .before .before .before .before .before .before .before .before .before .before .before .before .before .before .before .before .before .before .args .result .now))
+put-requires-3 c κs =
+    let put-hex = c .before .before .before .before .put-hex in
+    let put2 = c .before .before .before .before .before .before .before .before .put2 in
+    let put-decimal = c .before .before .before .before .before .before .before .before .before .before .before .before .before .put-decimal in
+    let put = c .before .before .before .before .before .before .before .before .before .before .before .before .before .before .before .before .before .put in
+    let args = c .before .before .before .before .before .before .before .before .before .before .before .before .before .before .before .before .before .before .before .before .before .before .args
+    in
+    let pre = c .before .before .before .before .before .before .before .before .before .before .before .before .before .before .before .before .before .before .before .before .before .before .pre
+    in
+    omega (
+      arith,
+      pre,
+      (put .kept .0),
+      (put .ensures .to-is),
+      (put-decimal .kept .0),
+      (put-decimal .ensures .1),
+      (put2 .kept .0),
+      (put2 .ensures .to-is),
+      (put-hex .kept .0),
+      (put-hex .ensures .to-is),
+      hex-length (args .result .now),
+    )
 
 same-length : tie.Need-same-length
 same-length c = search needs
 
 returns : tie.Need-returns
-returns c = let h = then (c .before .before .before .before .before .before .before .put-hex .ensures) (c .before .before .put3 .ensures) in let n = then ((c .before .before .before .before .before .before .before .before .before .before .before .before .before .before .before .before .put-decimal .ensures) .0) (then (c .before .before .before .before .before .before .before .before .before .before .before .put2 .ensures) h) in then (c .before .before .before .before .before .before .before .before .before .before .before .before .before .before .before .before .before .before .before .before .put .ensures) n
+returns c =
+    let put3 = c .before .before .put3 in
+    let put-hex = c .before .before .before .before .before .before .before .put-hex in
+    let put2 = c .before .before .before .before .before .before .before .before .before .before .before .put2 in
+    let put-decimal = c .before .before .before .before .before .before .before .before .before .before .before .before .before .before .before .before .put-decimal in
+    let put = c .before .before .before .before .before .before .before .before .before .before .before .before .before .before .before .before .before .before .before .before .put
+    in
+    let h = then (put-hex .ensures) (put3 .ensures) in let n = then ((put-decimal .ensures) .0) (then (put2 .ensures) h) in then (put .ensures) n
 
 pub value-spec : {M : Type 1} → statement M
 value-spec =

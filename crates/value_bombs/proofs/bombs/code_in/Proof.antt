@@ -20,13 +20,20 @@ returns : tie.Need-returns
 returns c = not-built (inl (c .if1 .taken)) refl refl
 
 nest-requires : tie.Need-nest-requires
-nest-requires c κs = empty-asks (c .before .before .before .before .args .cells .now) (c .before .if1 .left)
+nest-requires c κs =
+    let args = c .before .before .before .before .args in
+    empty-asks (args .cells .now) (c .before .if1 .left)
 
 enum-known-a : tie.Need-enum-known-a
 enum-known-a c = search needs
 
 code-value-requires : tie.Need-code-value-requires
-code-value-requires c κs = code-asks (c .before .before .before .before .before .before .before .before .before .before .before .before .args .leaf) (c .before .before .before .before .before .before .before .before .before .before .before .before .args .last) (c .before .before .before .before .before .before .before .before .before .before .before .before .args .depth) (c .before .before .before .a .given .0 .1 .0) (c .before .before .before .before .before .before .before .before .before .before .before .before .args .cells .now) (c .before .before .before .before .before .before .before .nest .last .0) (c .before .before .before .a .given .0 .0) (subst (λ (r : Nested). NestedGives (c .before .before .before .before .before .before .before .before .before .before .before .before .args .leaf) (c .before .before .before .before .before .before .before .before .before .before .before .before .args .last) (c .before .before .before .before .before .before .before .before .before .before .before .before .args .depth) 0 (c .before .before .before .before .before .before .before .before .before .before .before .before .args .cells .now) (c .before .before .before .before .before .before .before .nest .last .0) r) (c .before .before .before .a .given .1) (c .before .before .before .before .before .before .before .nest .ensures))
+code-value-requires c κs =
+    let a2 = c .before .before .before .a in
+    let nest2 = c .before .before .before .before .before .before .before .nest in
+    let args = c .before .before .before .before .before .before .before .before .before .before .before .before .args in
+    code-asks (args .leaf) (args .last) (args .depth) (a2 .given .0 .1 .0) (args .cells .now) (nest2 .last .0) (a2 .given .0 .0) (subst (λ (r :
+    Nested). NestedGives (args .leaf) (args .last) (args .depth) 0 (args .cells .now) (nest2 .last .0) r) (a2 .given .1) (nest2 .ensures))
 
 enum-told : tie.Need-enum-told
 enum-told c = search needs
@@ -38,16 +45,26 @@ same-length-2 : tie.Need-same-length-2
 same-length-2 c = search needs
 
 returns-2 : tie.Need-returns-2
-returns-2 c = code-gives (c .before .before .before .before .before .before .before .before .before .before .before .before .before .before .before .args .leaf) (c .before .before .before .before .before .before .before .before .before .before .before .before .before .before .before .args .last) (c .before .before .before .before .before .before .before .before .before .before .before .before .before .before .before .args .depth) (c .before .before .before .before .before .before .a .given .0 .1 .0) (c .before .before .before .before .before .before .before .before .before .before .before .before .before .before .before .args .cells .now) (c .before .before .before .before .before .before .before .before .before .before .nest .last .0) (c .before .before .before .before .before .before .a .given .0 .0) (length (c .before .before .before .before .before .before .before .before .before .before .before .before .before .before .before .args .cells .now)) (c .before .before .before .before .before .before .before .before .before .before .before .before .before .before .before .args .out .now) _ (c .before .before .code-value .result) (subst (λ (r : Nested). NestedGives (c .before .before .before .before .before .before .before .before .before .before .before .before .before .before .before .args .leaf) (c .before .before .before .before .before .before .before .before .before .before .before .before .before .before .before .args .last) (c .before .before .before .before .before .before .before .before .before .before .before .before .before .before .before .args .depth) 0 (c .before .before .before .before .before .before .before .before .before .before .before .before .before .before .before .args .cells .now) (c .before .before .before .before .before .before .before .before .before .before .nest .last .0) r) (c .before .before .before .before .before .before .a .given .1) (c .before .before .before .before .before .before .before .before .before .before .nest .ensures)) (c .before .before .code-value .ensures)
+returns-2 c =
+    let code-value = c .before .before .code-value in
+    let a2 = c .before .before .before .before .before .before .a in
+    let nest2 = c .before .before .before .before .before .before .before .before .before .before .nest in
+    let args = c .before .before .before .before .before .before .before .before .before .before .before .before .before .before .before .args in
+    code-gives (args .leaf) (args .last) (args .depth) (a2 .given .0 .1 .0) (args .cells .now) (nest2 .last .0) (a2 .given .0 .0) (length (args .cells .now))
+    (args .out .now) _ (code-value .result) (subst (λ (r : Nested). NestedGives (args .leaf) (args .last) (args .depth) 0 (args .cells .now)
+    (nest2 .last .0) r) (a2 .given .1) (nest2 .ensures)) (code-value .ensures)
 
 same-length-3 : tie.Need-same-length-3
 same-length-3 c = search needs
 
 returns-3 : tie.Need-returns-3
 returns-3 c =
-    let a = c .before .before .before .before .before .before .before .before .before .args in
-    let nested = c .before .before .before .before .nest in
-    not-built (inr (too-nested (a .leaf) (a .last) (a .depth) 0 (a .cells .now) (nested .last .0) (nested .result) (omega arith) (c .enum-told .given .1) (nested .ensures))) refl refl
+    let nest2 = c .before .before .before .before .nest in
+    let args = c .before .before .before .before .before .before .before .before .before .args in
+    let a = args in
+    let nested = nest2 in
+    not-built (inr (too-nested (a .leaf) (a .last) (a .depth) 0 (a .cells .now) (nested .last .0) (nested .result) (omega arith) (c .enum-told .given .1)
+    (nested .ensures))) refl refl
 
 pub code-in-spec : {M : Type 1} → statement M
 code-in-spec =

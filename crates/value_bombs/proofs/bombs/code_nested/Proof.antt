@@ -16,7 +16,10 @@ same-length-2 : tie.Need-same-length-2
 same-length-2 c = search needs
 
 returns : tie.Need-returns
-returns c = (c .before .before .before .before .before .before .before .before .code-in .ensures, c .before .before .clear-u64 .ensures)
+returns c =
+    let clear-u64 = c .before .before .clear-u64 in
+    let code-in = c .before .before .before .before .before .before .before .before .code-in in
+    (code-in .ensures, clear-u64 .ensures)
 
 pub code-nested-spec : {M : Type 1} → statement M
 code-nested-spec = tie.close (tie.spec code-in-requires clear-u64-requires same-length same-length-2 returns)

@@ -26,13 +26,20 @@ clear-u16-requires : tie.Need-clear-u16-requires
 clear-u16-requires c κs = search needs
 
 nest-requires : tie.Need-nest-requires
-nest-requires c κs = empty-asks (c .before .before .before .before .before .before .before .before .before .args .cells .now) (c .before .before .before .before .before .before .if1 .left)
+nest-requires c κs =
+    let if1 = c .before .before .before .before .before .before .if1 in
+    let args = c .before .before .before .before .before .before .before .before .before .args in
+    empty-asks (args .cells .now) (if1 .left)
 
 enum-known-a : tie.Need-enum-known-a
 enum-known-a c = search needs
 
 nest-requires-2 : tie.Need-nest-requires-2
-nest-requires-2 c κs = (subst (λ (r : Nested). NestedGives (c .before .before .before .before .before .before .before .before .before .before .before .before .before .before .before .before .args .left) (c .before .before .before .before .before .before .before .before .before .before .before .before .before .before .before .before .args .left-last) (c .before .before .before .before .before .before .before .before .before .before .before .before .before .before .before .before .args .depth) 0 (c .before .before .before .before .before .before .before .before .before .before .before .before .before .before .before .before .args .cells .now) (c .before .before .before .before .before .before .nest .last .0) r) (c .before .before .a .given .1) (c .before .before .before .before .before .before .nest .ensures)) .asks
+nest-requires-2 c κs =
+    let a2 = c .before .before .a in
+    let nest2 = c .before .before .before .before .before .before .nest in
+    let args = c .before .before .before .before .before .before .before .before .before .before .before .before .before .before .before .before .args in
+    (subst (λ (r : Nested). NestedGives (args .left) (args .left-last) (args .depth) 0 (args .cells .now) (nest2 .last .0) r) (a2 .given .1) (nest2 .ensures)) .asks
 
 enum-known-b : tie.Need-enum-known-b
 enum-known-b c = search needs
@@ -44,7 +51,25 @@ slice-aggregate-equal-2 : tie.Need-slice-aggregate-equal-2
 slice-aggregate-equal-2 c = search needs
 
 equal-requires : tie.Need-equal-requires
-equal-requires c κs = equal-asks (c .before .before .before .before .before .before .before .before .before .before .before .before .before .before .before .before .before .before .before .before .before .before .before .before .before .before .args .left) (c .before .before .before .before .before .before .before .before .before .before .before .before .before .before .before .before .before .before .before .before .before .before .before .before .before .before .args .left-last) (c .before .before .before .before .before .before .before .before .before .before .before .before .before .before .before .before .before .before .before .before .before .before .before .before .before .before .args .right) (c .before .before .before .before .before .before .before .before .before .before .before .before .before .before .before .before .before .before .before .before .before .before .before .before .before .before .args .right-last) (c .before .before .before .before .before .before .before .before .before .before .before .before .before .before .before .before .before .before .before .before .before .before .before .before .before .before .args .depth) (c .before .before .before .before .before .before .before .before .before .before .before .before .a .given .0 .1 .0) (c .before .before .before .before .before .b .given .0 .1 .0) (c .before .before .before .before .before .before .before .before .before .before .before .before .before .before .before .before .before .before .before .before .before .before .before .before .before .before .args .cells .now) (c .before .before .before .before .before .before .before .before .before .before .before .before .before .before .before .before .nest .last .0) (c .before .before .before .before .before .before .before .before .before .nest2 .last .0) (c .before .before .before .before .before .before .before .before .before .before .before .before .before .before .before .before .before .before .before .before .clear-u16 .last .0) (c .before .before .before .before .before .before .before .before .before .before .before .before .a .given .0 .0) (c .before .before .before .before .before .b .given .0 .0) (c .before .before .before .before .before .before .before .before .before .before .before .before .before .before .before .before .before .before .before .before .clear-u16 .ensures) (omega (arith, (c .before .before .before .before .before .before .before .before .before .before .before .before .before .before .before .before .before .before .before .before .before .before .if2 .left), (c .before .before .before .before .before .before .before .before .before .before .before .before .before .before .before .before .before .before .before .before .clear-u16 .kept) .0)) (subst (λ (r : Nested). NestedGives (c .before .before .before .before .before .before .before .before .before .before .before .before .before .before .before .before .before .before .before .before .before .before .before .before .before .before .args .left) (c .before .before .before .before .before .before .before .before .before .before .before .before .before .before .before .before .before .before .before .before .before .before .before .before .before .before .args .left-last) (c .before .before .before .before .before .before .before .before .before .before .before .before .before .before .before .before .before .before .before .before .before .before .before .before .before .before .args .depth) 0 (c .before .before .before .before .before .before .before .before .before .before .before .before .before .before .before .before .before .before .before .before .before .before .before .before .before .before .args .cells .now) (c .before .before .before .before .before .before .before .before .before .before .before .before .before .before .before .before .nest .last .0) r) (c .before .before .before .before .before .before .before .before .before .before .before .before .a .given .1) (c .before .before .before .before .before .before .before .before .before .before .before .before .before .before .before .before .nest .ensures)) (subst (λ (r : Nested). NestedGives (c .before .before .before .before .before .before .before .before .before .before .before .before .before .before .before .before .before .before .before .before .before .before .before .before .before .before .args .right) (c .before .before .before .before .before .before .before .before .before .before .before .before .before .before .before .before .before .before .before .before .before .before .before .before .before .before .args .right-last) (c .before .before .before .before .before .before .before .before .before .before .before .before .before .before .before .before .before .before .before .before .before .before .before .before .before .before .args .depth) (c .before .before .before .before .before .before .before .before .before .before .before .before .a .given .0 .1 .0) (c .before .before .before .before .before .before .before .before .before .before .before .before .before .before .before .before .nest .last .0) (c .before .before .before .before .before .before .before .before .before .nest2 .last .0) r) (c .before .before .before .before .before .b .given .1) (c .before .before .before .before .before .before .before .before .before .nest2 .ensures))
+equal-requires c κs =
+    let b = c .before .before .before .before .before .b in
+    let nest2 = c .before .before .before .before .before .before .before .before .before .nest2 in
+    let a2 = c .before .before .before .before .before .before .before .before .before .before .before .before .a in
+    let nest3 = c .before .before .before .before .before .before .before .before .before .before .before .before .before .before .before .before .nest in
+    let clear-u16 = c .before .before .before .before .before .before .before .before .before .before .before .before .before .before .before .before .before .before .before .before .clear-u16
+    in
+    let if2 = c .before .before .before .before .before .before .before .before .before .before .before .before .before .before .before .before .before .before .before .before .before .before .if2
+    in
+    let args = c .before .before .before .before .before .before .before .before .before .before .before .before .before .before .before .before .before .before .before .before .before .before .before .before .before .before .args
+    in
+    equal-asks (args .left) (args .left-last) (args .right) (args .right-last) (args .depth) (a2 .given .0 .1 .0) (b .given .0 .1 .0) (args .cells .now)
+    (nest3 .last .0) (nest2 .last .0) (clear-u16 .last .0) (a2 .given .0 .0) (b .given .0 .0) (clear-u16 .ensures) (omega (
+      arith,
+      (if2 .left),
+      (clear-u16 .kept) .0,
+    )) (subst (λ (r : Nested). NestedGives (args .left) (args .left-last) (args .depth) 0 (args .cells .now) (nest3 .last .0)
+    r) (a2 .given .1) (nest3 .ensures)) (subst (λ (r : Nested). NestedGives (args .right) (args .right-last) (args .depth) (a2 .given .0 .1 .0)
+    (nest3 .last .0) (nest2 .last .0) r) (b .given .1) (nest2 .ensures))
 
 enum-told : tie.Need-enum-told
 enum-told c = search needs
@@ -59,7 +84,18 @@ same-length-2 : tie.Need-same-length-2
 same-length-2 c = search needs
 
 returns-3 : tie.Need-returns-3
-returns-3 c = equal-gives (c .before .before .before .before .before .before .before .before .before .before .before .before .before .before .before .before .before .before .before .before .before .before .before .before .before .before .before .before .before .args .left) (c .before .before .before .before .before .before .before .before .before .before .before .before .before .before .before .before .before .before .before .before .before .before .before .before .before .before .before .before .before .args .left-last) (c .before .before .before .before .before .before .before .before .before .before .before .before .before .before .before .before .before .before .before .before .before .before .before .before .before .before .before .before .before .args .right) (c .before .before .before .before .before .before .before .before .before .before .before .before .before .before .before .before .before .before .before .before .before .before .before .before .before .before .before .before .before .args .right-last) (c .before .before .before .before .before .before .before .before .before .before .before .before .before .before .before .before .before .before .before .before .before .before .before .before .before .before .before .before .before .args .depth) (c .before .before .before .before .before .before .before .before .before .before .before .before .before .before .before .a .given .0 .1 .0) (c .before .before .before .before .before .before .before .before .b .given .0 .1 .0) (c .before .before .before .before .before .before .before .before .before .before .before .before .before .before .before .before .before .before .before .before .before .before .before .before .before .before .before .before .before .args .cells .now) (c .before .before .before .before .before .before .before .before .before .before .before .before .before .before .before .before .before .before .before .nest .last .0) (c .before .before .before .before .before .before .before .before .before .before .before .before .nest2 .last .0) _ (c .before .before .before .before .before .before .before .before .before .before .before .before .before .before .before .a .given .0 .0) (c .before .before .before .before .before .before .before .before .b .given .0 .0) (c .before .before .equal .result) (subst (λ (r : Nested). NestedGives (c .before .before .before .before .before .before .before .before .before .before .before .before .before .before .before .before .before .before .before .before .before .before .before .before .before .before .before .before .before .args .left) (c .before .before .before .before .before .before .before .before .before .before .before .before .before .before .before .before .before .before .before .before .before .before .before .before .before .before .before .before .before .args .left-last) (c .before .before .before .before .before .before .before .before .before .before .before .before .before .before .before .before .before .before .before .before .before .before .before .before .before .before .before .before .before .args .depth) 0 (c .before .before .before .before .before .before .before .before .before .before .before .before .before .before .before .before .before .before .before .before .before .before .before .before .before .before .before .before .before .args .cells .now) (c .before .before .before .before .before .before .before .before .before .before .before .before .before .before .before .before .before .before .before .nest .last .0) r) (c .before .before .before .before .before .before .before .before .before .before .before .before .before .before .before .a .given .1) (c .before .before .before .before .before .before .before .before .before .before .before .before .before .before .before .before .before .before .before .nest .ensures)) (subst (λ (r : Nested). NestedGives (c .before .before .before .before .before .before .before .before .before .before .before .before .before .before .before .before .before .before .before .before .before .before .before .before .before .before .before .before .before .args .right) (c .before .before .before .before .before .before .before .before .before .before .before .before .before .before .before .before .before .before .before .before .before .before .before .before .before .before .before .before .before .args .right-last) (c .before .before .before .before .before .before .before .before .before .before .before .before .before .before .before .before .before .before .before .before .before .before .before .before .before .before .before .before .before .args .depth) (c .before .before .before .before .before .before .before .before .before .before .before .before .before .before .before .a .given .0 .1 .0) (c .before .before .before .before .before .before .before .before .before .before .before .before .before .before .before .before .before .before .before .nest .last .0) (c .before .before .before .before .before .before .before .before .before .before .before .before .nest2 .last .0) r) (c .before .before .before .before .before .before .before .before .b .given .1) (c .before .before .before .before .before .before .before .before .before .before .before .before .nest2 .ensures)) (c .before .before .equal .ensures)
+returns-3 c =
+    let equal2 = c .before .before .equal in
+    let b = c .before .before .before .before .before .before .before .before .b in
+    let nest2 = c .before .before .before .before .before .before .before .before .before .before .before .before .nest2 in
+    let a2 = c .before .before .before .before .before .before .before .before .before .before .before .before .before .before .before .a in
+    let nest3 = c .before .before .before .before .before .before .before .before .before .before .before .before .before .before .before .before .before .before .before .nest in
+    let args = c .before .before .before .before .before .before .before .before .before .before .before .before .before .before .before .before .before .before .before .before .before .before .before .before .before .before .before .before .before .args
+    in
+    equal-gives (args .left) (args .left-last) (args .right) (args .right-last) (args .depth) (a2 .given .0 .1 .0) (b .given .0 .1 .0) (args .cells .now)
+    (nest3 .last .0) (nest2 .last .0) _ (a2 .given .0 .0) (b .given .0 .0) (equal2 .result) (subst (λ (r : Nested). NestedGives (args .left) (args .left-last)
+    (args .depth) 0 (args .cells .now) (nest3 .last .0) r) (a2 .given .1) (nest3 .ensures)) (subst (λ (r : Nested). NestedGives (args .right)
+    (args .right-last) (args .depth) (a2 .given .0 .1 .0) (nest3 .last .0) (nest2 .last .0) r) (b .given .1) (nest2 .ensures)) (equal2 .ensures)
 
 same-length-3 : tie.Need-same-length-3
 same-length-3 c = search needs
@@ -69,13 +105,20 @@ same-length-4 c = search needs
 
 returns-4 : tie.Need-returns-4
 returns-4 c =
-    let a = c .before .before .before .before .before .before .before .before .before .before .before .before .before .before .before .before .before .before .before .before .before .args in
-    let first = c .before .before .before .before .before .before .before .before .before .before .before .nest in
-    let nested = c .before .before .before .before .nest2 in
-    let given = c .before .before .before .before .before .before .before .a .given in
-    let at = nested-at (a .left) (a .left-last) (a .depth) 0 (a .cells .now) (first .last .0) (first .result) (given .0 .0) (given .0 .1 .0) (given .1) (first .ensures) in
+    let nest2 = c .before .before .before .before .nest2 in
+    let a2 = c .before .before .before .before .before .before .before .a in
+    let nest3 = c .before .before .before .before .before .before .before .before .before .before .before .nest in
+    let args = c .before .before .before .before .before .before .before .before .before .before .before .before .before .before .before .before .before .before .before .before .before .args
+    in
+    let a = args in
+    let first = nest3 in
+    let nested = nest2 in
+    let given = a2 .given in
+    let at = nested-at (a .left) (a .left-last) (a .depth) 0 (a .cells .now) (first .last .0) (first .result) (given .0 .0) (given .0 .1 .0)
+    (given .1) (first .ensures) in
     let h : given .0 .1 .0 ≤ 4 * a .depth = omega (arith, at .count) in
-    inr (inr (too-nested (a .right) (a .right-last) (a .depth) (given .0 .1 .0) (first .last .0) (nested .last .0) (nested .result) h (c .enum-told .given .1) (nested .ensures)))
+    inr (inr (too-nested (a .right) (a .right-last) (a .depth) (given .0 .1 .0) (first .last .0) (nested .last .0) (nested .result) h (c .enum-told .given .1)
+    (nested .ensures)))
 
 same-length-5 : tie.Need-same-length-5
 same-length-5 c = search needs
@@ -85,9 +128,12 @@ same-length-6 c = search needs
 
 returns-5 : tie.Need-returns-5
 returns-5 c =
-    let a = c .before .before .before .before .before .before .before .before .before .before .before .before .before .before .args in
-    let nested = c .before .before .before .before .nest in
-    inr (inr (too-nested (a .left) (a .left-last) (a .depth) 0 (a .cells .now) (nested .last .0) (nested .result) (omega arith) (c .enum-told2 .given .1) (nested .ensures)))
+    let nest2 = c .before .before .before .before .nest in
+    let args = c .before .before .before .before .before .before .before .before .before .before .before .before .before .before .args in
+    let a = args in
+    let nested = nest2 in
+    inr (inr (too-nested (a .left) (a .left-last) (a .depth) 0 (a .cells .now) (nested .last .0) (nested .result) (omega arith) (c .enum-told2 .given .1)
+    (nested .ensures)))
 
 pub compare-in-spec : {M : Type 1} → statement M
 compare-in-spec =

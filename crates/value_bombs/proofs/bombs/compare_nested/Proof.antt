@@ -19,7 +19,11 @@ same-length-2 : tie.Need-same-length-2
 same-length-2 c = search needs
 
 returns : tie.Need-returns
-returns c = (c .before .before .before .before .before .before .before .before .before .before .before .before .compare-in .ensures, (c .before .before .before .before .before .before .clear-u64 .ensures, c .before .before .clear-u16 .ensures))
+returns c =
+    let clear-u16 = c .before .before .clear-u16 in
+    let clear-u64 = c .before .before .before .before .before .before .clear-u64 in
+    let compare-in = c .before .before .before .before .before .before .before .before .before .before .before .before .compare-in in
+    (compare-in .ensures, (clear-u64 .ensures, clear-u16 .ensures))
 
 pub compare-nested-spec : {M : Type 1} → statement M
 compare-nested-spec =

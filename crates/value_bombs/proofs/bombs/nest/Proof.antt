@@ -16,50 +16,90 @@ use Rattle.value_bombs.proofs.bombs.nest.Lts as lts
 use Rattle.value_bombs.proofs.bombs.grow.Reads as grow-reads
 
 abbrev Inv-loop : tie.InvT-loop
-Inv-loop cells₀ nc depth x₀ y₀ n₀ i₀ cells x y n i = (i ≤ depth) × (length cells ≡ length cells₀) × ((leaf last : Number) → x₀ ≡ Num leaf → y₀ ≡ Num last → Twins leaf last i nc cells₀ cells x y n)
+Inv-loop cells₀ nc depth x₀ y₀ n₀ i₀ cells x y n i = (i ≤ depth) × (length cells ≡ length cells₀) × ((leaf last : Number) → x₀ ≡ Num leaf → y₀ ≡ Num
+    last → Twins leaf last i nc cells₀ cells x y n)
 
 abbrev μ-loop : tie.MeasureT-loop
 μ-loop cells₀ nc depth x₀ y₀ n₀ i₀ cells x y n i = depth - i
 
 loop-holds : tie.Need-loop-holds Inv-loop μ-loop
-loop-holds c = (omega arith, refl, λ l m e f. first-twins (c .before .args .leaf) (c .before .args .last) l m (c .before .args .nc) (c .before .args .cells .now) (c .before .pre) e f)
+loop-holds c = (
+  omega arith,
+  refl,
+  λ l m e f. first-twins (c .before .args .leaf) (c .before .args .last) l m (c .before .args .nc) (c .before .args .cells .now)
+      (c .before .pre) e f,
+)
 
 grow-requires : tie.Need-grow-requires Inv-loop μ-loop
-grow-requires c κs = let t = (c .before .before .loop .inv) .2 (c .before .before .before .before .args .leaf) (c .before .before .before .before .args .last) refl refl in (t .path .asks .words, t .path .asks .few, t .fit, t .path .fit)
+grow-requires c κs =
+    let loop2 = c .before .before .loop in
+    let args = c .before .before .before .before .args in
+    let t = (loop2 .inv) .2 (args .leaf) (args .last) refl refl in (t .path .asks .words, t .path .asks .few, t .fit, t .path .fit)
 
 enum-known-v : tie.Need-enum-known-v Inv-loop μ-loop
 enum-known-v c = search needs
 
 add-n : tie.Need-add-n Inv-loop μ-loop
-add-n c = omega (arith, ((c .before .before .before .before .before .before .before .before .loop .inv) .2 (c .before .before .before .before .before .before .before .before .before .before .args .leaf) (c .before .before .before .before .before .before .before .before .before .before .args .last) refl refl) .path .asks .few)
+add-n c =
+    let loop2 = c .before .before .before .before .before .before .before .before .loop in
+    let args = c .before .before .before .before .before .before .before .before .before .before .args in
+    omega (arith, ((loop2 .inv) .2 (args .leaf) (args .last) refl refl) .path .asks .few)
 
 enum-told : tie.Need-enum-told Inv-loop μ-loop
 enum-told c = search needs
 
 same-length : tie.Need-same-length Inv-loop μ-loop
-same-length c = omega (arith, (c .before .before .before .before .grow .kept) .0, (c .before .before .before .before .before .before .before .loop .inv) .1)
+same-length c =
+    let grow2 = c .before .before .before .before .grow in
+    let loop2 = c .before .before .before .before .before .before .before .loop in
+    omega (arith, (grow2 .kept) .0, (loop2 .inv) .1)
 
 returns : tie.Need-returns Inv-loop μ-loop
 returns c =
-    let a = c .before .before .before .before .before .before .before .before .before .args in
-    let loop = c .before .before .before .before .before .before .before .loop in
-    let grown = c .before .before .before .before .grow in
-    turn-fails (a .leaf) (a .last) (loop .i) (a .nc) (loop .n) (a .depth) (a .cells .now) (loop .cells) (grown .last .0) (loop .x) (loop .y) (grown .result) (loop .inv .2 (a .leaf) (a .last) refl refl) (c .before .before .before .before .before .before .loop-test .taken) (c .enum-told .given .1) (grown .ensures)
+    let grow2 = c .before .before .before .before .grow in
+    let loop-test = c .before .before .before .before .before .before .loop-test in
+    let loop2 = c .before .before .before .before .before .before .before .loop in
+    let args = c .before .before .before .before .before .before .before .before .before .args in
+    let a = args in
+    let loop = loop2 in
+    let grown = grow2 in
+    turn-fails (a .leaf) (a .last) (loop .i) (a .nc) (loop .n) (a .depth) (a .cells .now) (loop .cells) (grown .last .0) (loop .x) (loop .y)
+    (grown .result) (loop .inv .2 (a .leaf) (a .last) refl refl) (loop-test .taken) (c .enum-told .given .1) (grown .ensures)
 
 add-i : tie.Need-add-i Inv-loop μ-loop
-add-i c = let f = (c .before .before .before .before .before .before .before .before .before .before .fits .depth .fits) in omega (arith, (c .before .before .before .before .before .before .before .loop-test .taken))
+add-i c =
+    let loop-test = c .before .before .before .before .before .before .before .loop-test in
+    let fits = c .before .before .before .before .before .before .before .before .before .before .fits in
+    let f = (fits .depth .fits) in omega (arith, (loop-test .taken))
 
 loop-less : tie.Need-loop-less Inv-loop μ-loop
-loop-less c = omega (arith, (c .before .before .before .before .before .before .before .loop-test .taken))
+loop-less c =
+    let loop-test = c .before .before .before .before .before .before .before .loop-test in
+    omega (arith, (loop-test .taken))
 
 loop-again : tie.Need-loop-again Inv-loop μ-loop
-loop-again c = (omega (arith, (c .before .before .before .before .before .before .before .loop-test .taken)), (c .before .before .before .before .before .grow .kept) .0 ∙ (c .before .before .before .before .before .before .before .before .loop .inv) .1, λ l m e f. next-twins l m (c .before .before .before .before .before .before .before .before .loop .i) (c .before .before .before .before .before .before .before .before .before .before .args .nc) (c .before .before .before .before .before .before .before .before .loop .n) (c .before .before .before .before .before .before .before .before .before .before .args .cells .now) (c .before .before .before .before .before .before .before .before .loop .cells) (c .before .before .before .before .before .grow .last .0) (c .before .before .before .before .before .before .before .before .loop .x) (c .before .before .before .before .before .before .before .before .loop .y) (c .before .v .given .0 .0) (c .before .v .given .0 .1 .0) ((c .before .before .before .before .before .before .before .before .loop .inv) .2 l m e f) ((c .before .before .before .before .before .grow .kept) .0) (subst (λ (r : Grown). GrownGives (c .before .before .before .before .before .before .before .before .loop .x) (c .before .before .before .before .before .before .before .before .loop .y) (c .before .before .before .before .before .before .before .before .loop .n) (c .before .before .before .before .before .before .before .before .loop .cells) (c .before .before .before .before .before .grow .last .0) r) (c .before .v .given .1) (c .before .before .before .before .before .grow .ensures)))
+loop-again c =
+    let grow2 = c .before .before .before .before .before .grow in
+    let loop-test = c .before .before .before .before .before .before .before .loop-test in
+    let loop2 = c .before .before .before .before .before .before .before .before .loop in
+    let args = c .before .before .before .before .before .before .before .before .before .before .args in (
+      omega (arith, (loop-test .taken)),
+      (grow2 .kept) .0 ∙ (loop2 .inv) .1,
+      λ l m e f. next-twins l m (loop2 .i) (args .nc) (loop2 .n) (args .cells .now)
+          (loop2 .cells) (grow2 .last .0) (loop2 .x) (loop2 .y) (c .before .v .given .0 .0) (c .before .v .given .0 .1 .0) ((loop2 .inv) .2 l m e f)
+          ((grow2 .kept) .0) (subst (λ (r : Grown). GrownGives (loop2 .x) (loop2 .y) (loop2 .n) (loop2 .cells) (grow2 .last .0) r) (c .before .v .given .1)
+          (grow2 .ensures)),
+    )
 
 same-length-2 : tie.Need-same-length-2 Inv-loop μ-loop
 same-length-2 c = (c .before .loop .inv) .1
 
 returns-2 : tie.Need-returns-2 Inv-loop μ-loop
-returns-2 c = let e : (c .before .loop .i) ≡ (c .before .before .before .args .depth) = omega (arith, (c .loop-test .left), (c .before .loop .inv) .0) in subst (λ (d : ℕ). NestedAt (c .before .before .before .args .leaf) (c .before .before .before .args .last) d (c .before .before .before .args .nc) (c .before .before .before .args .cells .now) (c .before .loop .cells) (c .before .loop .y) (c .before .loop .n)) e ((c .before .loop .inv) .2 (c .before .before .before .args .leaf) (c .before .before .before .args .last) refl refl .path)
+returns-2 c =
+    let args = c .before .before .before .args in
+    let e : (c .before .loop .i) ≡ (args .depth) = omega (arith, (c .loop-test .left), (c .before .loop .inv) .0) in subst (λ (d : ℕ). NestedAt (args .leaf)
+    (args .last) d (args .nc) (args .cells .now) (c .before .loop .cells) (c .before .loop .y) (c .before .loop .n)) e ((c .before .loop .inv) .2
+    (args .leaf) (args .last) refl refl .path)
 
 pub nest-spec : {M : Type 1} → statement M
 nest-spec =

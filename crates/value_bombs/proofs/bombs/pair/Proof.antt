@@ -31,7 +31,13 @@ same-length : tie.Need-same-length
 same-length c = search needs
 
 returns : tie.Need-returns
-returns c = paired _ _ (c .before .before .before .before .before .before .before .before .before .before .before .before .args .x) (c .before .before .before .before .before .before .before .before .before .before .before .before .args .y) (c .before .before .before .before .before .before .before .before .before .before .before .before .args .nc) (c .before .before .before .before .before .before .before .before .before .before .before .before .args .cells .now) _ (c .before .before .build-sequence .result) (c .before .before .before .before .before .before .before .before .before .store-value .ensures) (c .before .before .before .before .before .before .store-value2 .ensures) (c .before .before .build-sequence .ensures)
+returns c =
+    let build-sequence = c .before .before .build-sequence in
+    let store-value2 = c .before .before .before .before .before .before .store-value2 in
+    let store-value = c .before .before .before .before .before .before .before .before .before .store-value in
+    let args = c .before .before .before .before .before .before .before .before .before .before .before .before .args in
+    paired _ _ (args .x) (args .y) (args .nc) (args .cells .now) _ (build-sequence .result) (store-value .ensures) (store-value2 .ensures)
+    (build-sequence .ensures)
 
 pub pair-spec : {M : Type 1} → statement M
 pair-spec =

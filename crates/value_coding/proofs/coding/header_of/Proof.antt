@@ -21,7 +21,11 @@ header-word-requires : tie.Need-header-word-requires
 header-word-requires c κs = search needs
 
 returns : tie.Need-returns
-returns c = header-made (headOf (c .before .before .before .args .v)) (c .before .before .before .args .n) (c .before .before .kind-of .result) (c .before .header-size .result) (c .header-word .result) ((c .before .before .kind-of .ensures) ∙ kind-is (c .before .before .before .args .v)) ((c .before .header-size .ensures) (c .before .before .before .args .n)) (c .header-word .ensures)
+returns c =
+    let kind-of = c .before .before .kind-of in
+    let args = c .before .before .before .args in
+    header-made (headOf (args .v)) (args .n) (kind-of .result) (c .before .header-size .result) (c .header-word .result) ((kind-of .ensures) ∙ kind-is
+    (args .v)) ((c .before .header-size .ensures) (args .n)) (c .header-word .ensures)
 
 pub header-of-spec : {M : Type 1} → statement M
 header-of-spec =
