@@ -1,4 +1,4 @@
-//! Whether every public function has two wrong programs, in must-fail/ or wrong/, and docs/GUARANTEE.md names each.
+//! Whether every public function has two wrong programs, in must-fail/ or wrong/, and docs/CONTRACTS.md names each.
 
 use crate::copy::{PARTS, files, names};
 use crate::edit::Edit;
@@ -11,7 +11,7 @@ const LEAST: usize = 2;
 
 /// What is missing, a line each.
 pub fn missing(top: &Path) -> Vec<String> {
-    let table = fs::read_to_string(top.join("docs/GUARANTEE.md")).expect("docs/GUARANTEE.md");
+    let table = fs::read_to_string(top.join("docs/CONTRACTS.md")).expect("docs/CONTRACTS.md");
     let mut lines = Vec::new();
     for name in names(&top.join("crates")) {
         let folder = top.join("crates").join(&name);
@@ -23,7 +23,7 @@ pub fn missing(top: &Path) -> Vec<String> {
             .iter()
             .filter(|e| !table.contains(&format!("`{}`", e.name)))
         {
-            lines.push(format!("{name}/{} is not in docs/GUARANTEE.md", edit.name));
+            lines.push(format!("{name}/{} is not in docs/CONTRACTS.md", edit.name));
         }
         for function in public(&files(&folder, &["src"])) {
             let count = edits.iter().filter(|e| e.of.contains(&function)).count();
