@@ -20,15 +20,15 @@ TEXT
   exit 2
 }
 
-# Builds a command of tests/ where it is missing or out of date, and runs it.
+# Builds a command of tools/ or tests/ where it is missing or out of date, and runs it.
 tool() {
-  (cd "$top/tests" && cargo build --offline --release --quiet -p "$1" --bin "$2")
-  "$top/tests/target/release/$2" "${@:3}"
+  (cd "$top/$1" && cargo build --offline --release --quiet -p "$2" --bin "$3")
+  "$top/$1/target/release/$3" "${@:4}"
 }
 
 image() {
   case $1 in
-    *.asm) tool asm rl-asm asm "$1" ;;
+    *.asm) tool tools asm rl-asm asm "$1" ;;
     -) cat ;;
     *) if [ ! -e "$1" ] && [ -f "$1.img" ]; then cat "$1.img"; else cat "$1"; fi ;;
   esac
@@ -75,8 +75,8 @@ on_image() {
 case $1 in
   run) on_image runner "$2" ;;
   check) on_image checker "$2" ;;
-  asm) if [ "$2" = - ]; then tool asm rl-asm asm; else tool asm rl-asm asm "$2"; fi ;;
-  dis) image "$2" | tool asm rl-asm dis ;;
-  published) image "$2" | tool oracle oracle ;;
+  asm) if [ "$2" = - ]; then tool tools asm rl-asm asm; else tool tools asm rl-asm asm "$2"; fi ;;
+  dis) image "$2" | tool tools asm rl-asm dis ;;
+  published) image "$2" | tool tests oracle oracle ;;
   *) usage ;;
 esac

@@ -2,9 +2,9 @@
 
 mod programs;
 
-use machine::{CheckAnswer, Machine, RunAnswer};
 use programs::PROGRAMS;
 use published::{Built, Ending};
+use rl_vm::{CheckAnswer, Machine, RunAnswer, RunWork};
 use std::hint::black_box;
 use std::time::Instant;
 
@@ -74,7 +74,7 @@ fn sheet_lines(machine: &mut Machine) {
     let count = same_value("pickup", &image, &built, machine);
     assert_eq!(machine.check(&image), CheckAnswer::Pass);
     let mut result = vec![0; ROOM];
-    let mut memory = vec![0u8; Machine::RUN_BYTES];
+    let mut memory = vec![0u8; RunWork::BYTES];
     let mut least = [f64::INFINITY; 5];
     for _ in 0..ROUNDS {
         let times = [
@@ -105,7 +105,7 @@ fn sheet_lines(machine: &mut Machine) {
     println!("  the machine, load and check and clear   {check:>8.2}");
     println!(
         "  to clear {} bytes, as a run does    {clearing:>8.2}",
-        Machine::RUN_BYTES
+        RunWork::BYTES
     );
 }
 

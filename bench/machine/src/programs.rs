@@ -1,4 +1,4 @@
-//! The images: loops of so many rounds, written in assembler text (tests/asm/README.md).
+//! The images: loops of so many rounds, written in assembler text (tools/asm/README.md).
 
 /// A program: what it is heavy in, its text with `ROUNDS` for the rounds and `KIND` for a kind of numbers, that kind, and how many
 /// rounds there are.

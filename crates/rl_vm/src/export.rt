@@ -1,4 +1,4 @@
-// The operations for C and Rust: numbers and slices, of which each is a pointer and a length (bindings/rl_vm.h). They ask no more of a caller than
+// The operations for C and Rust: numbers and slices, of which each is a pointer and length (bindings/c/rl_vm.h). They ask no more of a caller than
 // such slices always do: that each points to as many elements as its length says, and that none overlaps another.
 ghost use Rattle.image.specs.Answer.{slices};
 ghost use Rattle.vm_check.specs.Work.{checkWork, CheckZero};

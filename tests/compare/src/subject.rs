@@ -1,6 +1,6 @@
 //! The machine as the comparison asks it: every call with its memory and its result held to the rules.
 
-use machine::{Machine, RunAnswer};
+use machine::{Machine, RunAnswer, check_line, run_line};
 
 /// What the result slice holds before a run.
 const UNWRITTEN: u8 = 0xEE;
@@ -53,7 +53,7 @@ impl Subject {
         if written > room {
             return format!("{answer:?}, longer than its slice");
         }
-        let mut line = answer.line(&self.result);
+        let mut line = run_line(&answer, &self.result);
         if self.result[written..].iter().any(|b| *b != UNWRITTEN) {
             line += ", and the rest of the result slice is changed";
         }
@@ -67,7 +67,7 @@ impl Subject {
     /// The checker's line for an image, with a word on what the check broke, where it did.
     pub fn check(&mut self, image: &[u8]) -> String {
         self.prepare();
-        let mut line = self.machine.check(image).to_string();
+        let mut line = check_line(&self.machine.check(image));
         if !self.machine.is_clean_after_check() {
             line += ", and work memory is not zero";
             self.machine = Machine::new();

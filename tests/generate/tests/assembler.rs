@@ -76,7 +76,7 @@ fn any_text_is_answered() {
 /// The example that the assembler's README shows: it assembles, passes, and gives what it says.
 #[test]
 fn readme_example() {
-    let readme = include_str!("../../asm/README.md");
+    let readme = include_str!("../../../tools/asm/README.md");
     let example = readme.split("```").nth(1).expect("an example");
     let image = asm::assemble(example).expect("it assembles");
     assert_eq!(model::stack_check(&image), model::Checked::Pass);

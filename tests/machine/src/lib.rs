@@ -1,84 +1,46 @@
-//! The proved machine, linked: `check` and `run` of the crate `rl_vm` as safe functions of Rust.
-//!
-//! `rt staticlib rl_vm` proves the machine and writes the archive that this package links. A [`Machine`]
-//! owns the work memory that the exported functions are lent. [`run`] and [`check`] use one for each
-//! thread.
+//! The linked machine (bindings/rust) as tests ask it: on work memory of any lengths, with anything in it,
+//! that is looked at afterwards; and its answers as the lines of the built programs.
 
-mod linked;
+mod memory;
 
-use linked::{CheckWork, RunWork};
-use std::cell::RefCell;
-use std::fmt;
+use memory::{CheckMemory, RunMemory};
+pub use rl_vm::{CheckAnswer, RunAnswer};
 
-/// What Run answers.
-#[derive(Debug, Clone, Copy, PartialEq, Eq)]
-pub enum RunAnswer {
-    /// the image does not load; the line from 1, or 0 where no line is to blame
-    Refused { number: usize, line: usize },
-    /// a value: its coded bytes are the first `length` of the result slice
-    Value { count: usize, length: usize },
-    Stop {
-        number: usize,
-        count: usize,
-        chunk: usize,
-        offset: usize,
-    },
-}
-
-/// What Check answers.
-#[derive(Debug, Clone, Copy, PartialEq, Eq)]
-pub enum CheckAnswer {
-    Refused {
-        number: usize,
-        line: usize,
-    },
-    Pass,
-    Fault {
-        number: usize,
-        chunk: usize,
-        offset: usize,
-    },
-}
-
-impl RunAnswer {
-    /// The runner's line, without its line feed, where `result` is the slice that the run was lent.
-    pub fn line(&self, result: &[u8]) -> String {
-        match *self {
-            RunAnswer::Refused { number, line } => format!("refused {number} {line}"),
-            RunAnswer::Value { count, length } => {
-                let bytes = &result[..length];
-                let hex: String = bytes.iter().map(|b| format!("{b:02X}")).collect();
-                format!("value {count} {hex}")
-            }
-            RunAnswer::Stop {
-                number,
-                count,
-                chunk,
-                offset,
-            } => format!("stop {number} {count} {chunk:04} {offset:04}"),
+/// The runner's line, without its line feed, where `result` is the slice that the run was lent.
+pub fn run_line(answer: &RunAnswer, result: &[u8]) -> String {
+    match *answer {
+        RunAnswer::Refused { number, line } => format!("refused {number} {line}"),
+        RunAnswer::Value { count, length } => {
+            let bytes = &result[..length];
+            let hex: String = bytes.iter().map(|b| format!("{b:02X}")).collect();
+            format!("value {count} {hex}")
         }
+        RunAnswer::Stop {
+            number,
+            count,
+            chunk,
+            offset,
+        } => format!("stop {number} {count} {chunk:04} {offset:04}"),
     }
 }
 
-impl fmt::Display for CheckAnswer {
-    /// The checker's line, without its line feed.
-    fn fmt(&self, f: &mut fmt::Formatter<'_>) -> fmt::Result {
-        match *self {
-            CheckAnswer::Refused { number, line } => write!(f, "refused {number} {line}"),
-            CheckAnswer::Pass => f.write_str("pass"),
-            CheckAnswer::Fault {
-                number,
-                chunk,
-                offset,
-            } => write!(f, "fault {number} {chunk:04} {offset:04}"),
-        }
+/// The checker's line, without its line feed.
+pub fn check_line(answer: &CheckAnswer) -> String {
+    match *answer {
+        CheckAnswer::Refused { number, line } => format!("refused {number} {line}"),
+        CheckAnswer::Pass => "pass".to_string(),
+        CheckAnswer::Fault {
+            number,
+            chunk,
+            offset,
+        } => format!("fault {number} {chunk:04} {offset:04}"),
     }
 }
 
 /// The machine with the work memory of both operations.
 pub struct Machine {
-    for_run: RunWork,
-    for_check: CheckWork,
+    for_run: RunMemory,
+    for_check: CheckMemory,
 }
 
 impl Default for Machine {
@@ -94,13 +56,9 @@ fn lengths(least: &[(&str, usize)]) -> Vec<usize> {
 impl Machine {
     /// The name and the least length of each slice that `run` works on; below it, every image is
     /// refused with 9.
-    pub const RUN_LEAST: &[(&str, usize)] = RunWork::LEAST;
+    pub const RUN_LEAST: &[(&str, usize)] = RunMemory::LEAST;
     /// The same for `check`.
-    pub const CHECK_LEAST: &[(&str, usize)] = CheckWork::LEAST;
-    /// How much memory that is, in bytes, for `run`.
-    pub const RUN_BYTES: usize = RunWork::BYTES;
-    /// The same for `check`.
-    pub const CHECK_BYTES: usize = CheckWork::BYTES;
+    pub const CHECK_LEAST: &[(&str, usize)] = CheckMemory::LEAST;
 
     /// A machine whose work slices have the least lengths.
     pub fn new() -> Machine {
@@ -110,40 +68,19 @@ impl Machine {
     /// A machine whose work slices have the lengths given, for `run` and for `check`.
     pub fn with_lengths(for_run: &[usize], for_check: &[usize]) -> Machine {
         Machine {
-            for_run: RunWork::of(for_run),
-            for_check: CheckWork::of(for_check),
+            for_run: RunMemory::of(for_run),
+            for_check: CheckMemory::of(for_check),
         }
     }
 
-    /// Loads the image and runs it with a budget of instructions. Only a value writes `result`, its
-    /// first bytes.
+    /// `run` on this memory.
     pub fn run(&mut self, image: &[u8], budget: usize, result: &mut [u8]) -> RunAnswer {
-        let (number, [count, length, line, chunk, offset]) =
-            self.for_run.call(image, budget, result);
-        match number {
-            0 => RunAnswer::Value { count, length },
-            1..=9 => RunAnswer::Refused { number, line },
-            _ => RunAnswer::Stop {
-                number,
-                count,
-                chunk,
-                offset,
-            },
-        }
+        rl_vm::run_in(self.for_run.lend(), image, budget, result)
     }
 
-    /// Loads the image and checks it.
+    /// `check` on this memory.
     pub fn check(&mut self, image: &[u8]) -> CheckAnswer {
-        let (number, [line, chunk, offset]) = self.for_check.call(image);
-        match number {
-            0 => CheckAnswer::Pass,
-            1..=9 => CheckAnswer::Refused { number, line },
-            _ => CheckAnswer::Fault {
-                number,
-                chunk,
-                offset,
-            },
-        }
+        rl_vm::check_in(self.for_check.lend(), image)
     }
 
     /// Whether all memory that `run` was lent is zero, as it has to be after every run.
@@ -156,24 +93,9 @@ impl Machine {
         self.for_check.is_zero()
     }
 
-    /// Puts a byte everywhere into the work memory, for tests: no answer may depend on what stood there.
+    /// Puts a byte everywhere into the work memory: no answer may depend on what stood there.
     pub fn dirty(&mut self, byte: u8) {
         self.for_run.fill(byte);
         self.for_check.fill(byte);
     }
-}
-
-thread_local! {
-    static MACHINE: RefCell<Machine> = RefCell::new(Machine::new());
-}
-
-/// Loads the image and runs it with a budget of instructions. Only a value writes `result`, its first
-/// bytes.
-pub fn run(image: &[u8], budget: usize, result: &mut [u8]) -> RunAnswer {
-    MACHINE.with_borrow_mut(|machine| machine.run(image, budget, result))
-}
-
-/// Loads the image and checks it.
-pub fn check(image: &[u8]) -> CheckAnswer {
-    MACHINE.with_borrow_mut(|machine| machine.check(image))
 }

@@ -1,9 +1,9 @@
 //! The linked machine on every list that is fixed, with every way that an operation can end: its answers
-//! are the model's, all memory that it was lent is zero afterwards, whatever stood there before, and only
-//! a value writes the result.
+//! are the model's, all memory that it was lent is zero afterwards, whatever stood there before, only a
+//! value writes the result, and every value is decoded.
 
 use generate::{FIXED, fixed};
-use machine::{CheckAnswer, Machine, RunAnswer};
+use machine::{Machine, RunAnswer, check_line, run_line};
 use model::{BUDGET, Checked, ROOM};
 use std::collections::BTreeSet;
 
@@ -16,18 +16,22 @@ fn run(machine: &mut Machine, image: &[u8], budget: u64, room: usize) -> String 
     let answer = machine.run(image, budget as usize, &mut result);
     assert!(machine.is_clean_after_run(), "{answer:?} left memory");
     let written = match answer {
-        RunAnswer::Value { length, .. } => length,
+        RunAnswer::Value { length, .. } => {
+            let decoded = rl_vm::decode(&result[..length]);
+            assert!(decoded.is_ok(), "{decoded:?}");
+            length
+        }
         _ => 0,
     };
     let rest = &result[written..];
     assert!(rest.iter().all(|b| *b == UNWRITTEN), "{answer:?} wrote");
-    answer.line(&result)
+    run_line(&answer, &result)
 }
 
 fn check(machine: &mut Machine, image: &[u8]) -> String {
     let answer = machine.check(image);
     assert!(machine.is_clean_after_check(), "{answer:?} left memory");
-    answer.to_string()
+    check_line(&answer)
 }
 
 fn model_run(image: &[u8], budget: u64, room: usize) -> String {
@@ -61,23 +65,6 @@ fn ending(line: &str) -> String {
         ["value", ..] | ["pass"] => words[0].to_string(),
         _ => words[..2].join(" "),
     }
-}
-
-#[test]
-fn worked_image() {
-    let image =
-        b"01746F70\n02000000\n03010000000000000002\n03010000000000000003\n040000000000010113\n05\n";
-    let mut result = [0; 4096];
-    let answer = machine::run(image, 1_000_000, &mut result);
-    assert_eq!(
-        answer,
-        RunAnswer::Value {
-            count: 4,
-            length: 9
-        }
-    );
-    assert_eq!(answer.line(&result), "value 4 010000000000000005");
-    assert_eq!(machine::check(image), CheckAnswer::Pass);
 }
 
 #[test]

@@ -1,8 +1,8 @@
 //! The stack check.
 
 use image::Constant::{Bool, Function, Int, Str};
-use image::written::{Written, program};
 use model::{Checked, stack_check};
+use written::{Written, program};
 
 fn judged(chunks: &[Written]) -> String {
     match stack_check(&program(chunks)) {

@@ -1,9 +1,9 @@
 //! The mosts: at each one a run goes on, one above it stops with 45, and any other fault comes first.
 
 use image::Constant::{self, Function, Int, Null};
-use image::written::TEXTS;
 use image::{Chunk, Image};
 use model::{BUDGET, ROOM, run};
+use written::TEXTS;
 
 fn image(chunks: Vec<Chunk>) -> Image {
     Image {

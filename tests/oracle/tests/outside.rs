@@ -2,8 +2,8 @@
 //! be asked for. With each, document 01's answer by the model.
 
 use image::Constant::{Function, Int, Null, Str};
-use image::written::{Written, bytes};
 use image::{Chunk, Image, op};
+use written::{Written, bytes};
 
 fn outside(image: &[u8]) -> String {
     let line = oracle::answer(image);

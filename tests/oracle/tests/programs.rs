@@ -3,7 +3,7 @@
 use image::Constant::{
     BByte, Bool, Byte, Char, Float, Function, Int, Null, SByte, SFloat, SInt, Str, UInt,
 };
-use image::written::{Written, bytes};
+use written::{Written, bytes};
 
 /// What it shows, its chunks, the oracle's line.
 type Program = (&'static str, &'static [Written], &'static str);

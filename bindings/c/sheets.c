@@ -1,4 +1,4 @@
-/* The machine as a program in C uses it, by bindings/rl_vm.h alone: for each image file that it is given it prints the
+/* The machine as a program in C uses it, by rl_vm.h alone: for each image file that it is given it prints the
  * checker's line and the runner's line. It ends with 1 where an answer leaves a number unwritten, work memory that is
  * not zero, or more of the result changed than the value's bytes; or where a slice of the header's length is refused
  * with 9, or one that is shorter by one element is not. */

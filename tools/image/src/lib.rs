@@ -2,8 +2,6 @@
 //! parts to image lines. Nothing here judges an image: any parts can be written, also ones that no
 //! machine loads.
 
-pub mod written;
-
 /// A constant of a chunk. Floats are kept as their bits, so that a signalling NaN stays one.
 #[derive(Debug, Clone, Copy, PartialEq, Eq)]
 pub enum Constant {

@@ -1,6 +1,6 @@
 //! Small programs as the tests write them down: instructions with decimal operands, `;` between.
 
-use crate::{Chunk, Constant, INSTRUCTIONS, Image, op};
+use image::{Chunk, Constant, INSTRUCTIONS, Image, op};
 
 /// A chunk: its arity, its constants and its code.
 pub type Written = (u8, &'static [Constant], &'static str);

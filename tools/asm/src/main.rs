@@ -5,7 +5,7 @@ use std::process::ExitCode;
 
 const USAGE: &str = "rl-asm asm [FILE]   assembly text to image lines
 rl-asm dis [FILE]   image lines to assembly text
-Without FILE, standard input is read. The syntax stands in tests/asm/README.md.";
+Without FILE, standard input is read. The syntax stands in tools/asm/README.md.";
 
 /// One text to the other, or what is wrong with it.
 type Convert = fn(&[u8]) -> Result<String, String>;
