@@ -1,1 +1,2 @@
+-- One file: what a record leaves in the work slices.
 pub mod Stored

@@ -1,1 +1,2 @@
+-- One file: the order of signs and magnitudes.
 pub mod Orders

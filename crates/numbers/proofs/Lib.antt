@@ -1,3 +1,4 @@
+-- First signs and magnitudes; by these, the ranges of the kinds, wrapping, and sums, products and quotients; last, two operands of one kind.
 pub mod Signs
 pub mod Ranges
 pub mod Wrap

@@ -1,1 +1,2 @@
+-- One file: values nested two arrays at a time.
 pub mod Nesting

@@ -1,3 +1,4 @@
+-- Each turn copies one byte more: `out` is what it was with the first i bytes of `word` pasted at `at`; on both ways out i is `fitting`.
 use Rattle.case_list.proofs.put.Statement.{statement}
 use Rattle.case_list.proofs.put.Tie as tie
 use native.Mathlib.Omega.{arith}

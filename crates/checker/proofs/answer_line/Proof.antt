@@ -1,3 +1,4 @@
+-- The work arrays have the lengths that `check` asks for, so its answer is the one that the rules give to the bytes; `spell` puts its line.
 use borrow.Author.Needs.{needs}
 use Rattle.checker.proofs.answer_line.Statement.{statement}
 use Rattle.checker.proofs.answer_line.Tie as tie

@@ -1,3 +1,5 @@
+-- A slice that is too short and an image that is too long are refused before `load_roomy` is called; what that one reads is document 01's
+-- image, by `same-load`.
 use borrow.Author.Needs.{needs}
 use Rattle.image.proofs.load.Statement.{statement}
 use Rattle.image.proofs.load.Tie as tie

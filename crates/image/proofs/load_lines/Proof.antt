@@ -1,3 +1,5 @@
+-- Each turn takes one line more: by `Reading`, the lines from `at` on, read after what the state and the slices hold, give what
+-- the whole image gives. The bytes left fall.
 use Rattle.image.proofs.load_lines.Statement.{statement}
 use Rattle.image.proofs.load_lines.Tie as tie
 use borrow.Author.Needs.{needs}

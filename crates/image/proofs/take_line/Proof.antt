@@ -1,3 +1,5 @@
+-- Three ways: no line feed, digits that are no line, or a line that `record_of`, `accept` and `finish` take. Each is the reading's next step,
+-- and leaves the slices as they were behind what is read into them.
 use borrow.Author.Needs.{needs}
 use Rattle.image.proofs.take_line.Statement.{statement}
 use Rattle.image.proofs.take_line.Tie as tie

@@ -1,3 +1,4 @@
+-- One case for each way out: the tests taken on the way decide those of `digit`, and the bound is arithmetic.
 use Rattle.image_lines.proofs.hex.Statement.{statement}
 use Rattle.image_lines.proofs.hex.Tie as tie
 use borrow.Author.Needs.{needs}

@@ -1,3 +1,4 @@
+-- Each turn goes one byte on: from `at` up to i no byte is a line feed, so the first that is one ends the line; the bytes left fall.
 use Rattle.image_lines.proofs.line_end.Statement.{statement}
 use Rattle.image_lines.proofs.line_end.Tie as tie
 use native.Mathlib.Omega.{arith}

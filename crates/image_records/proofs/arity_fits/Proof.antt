@@ -1,3 +1,4 @@
+-- Where a chunk was read before, both sides are true; where none was, both are the test that the arity is 0.
 use Rattle.image_records.proofs.arity_fits.Statement.{statement}
 use Rattle.image_records.proofs.arity_fits.Tie as tie
 use borrow.Author.Tests.{lt-ltb, le-ltb}

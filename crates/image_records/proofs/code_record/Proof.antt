@@ -1,3 +1,4 @@
+-- What `code_line` promises is `codeOf`, once what `takes_code` answers is rewritten to `takesCode`.
 use borrow.Author.Needs.{needs}
 use Rattle.image_records.proofs.code_record.Statement.{statement}
 use Rattle.image_records.proofs.code_record.Tie as tie

@@ -1,3 +1,4 @@
+-- One case for each kind with a rule of its own, and one for the rest: the tests of the kind so far compute `allowed` to that rule.
 use borrow.Author.Needs.{needs}
 use Rattle.image_records.proofs.is_allowed.Statement.{statement}
 use Rattle.image_records.proofs.is_allowed.Tie as tie

@@ -1,3 +1,4 @@
+-- The code tests the kind against 13 as `listed` does: either way both sides compute to the same.
 use Rattle.image_records.proofs.is_listed.Statement.{statement}
 use Rattle.image_records.proofs.is_listed.Tie as tie
 use borrow.Author.Tests.{le-leb, lt-leb}

@@ -1,3 +1,4 @@
+-- Below 55296, from there to below 57344, or above: in each of the three ranges `scalar` computes to what the code answers.
 use Rattle.image_records.proofs.is_scalar.Statement.{statement}
 use Rattle.image_records.proofs.is_scalar.Tie as tie
 use borrow.Author.Tests.{lt-ltb, le-ltb, le-leb, lt-leb}

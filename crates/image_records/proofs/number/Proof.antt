@@ -1,3 +1,4 @@
+-- Each turn takes one byte more: v with the bytes still to come is the number of all, and v is below 256 to the power i; the bytes left fall.
 use Rattle.image_records.proofs.number.Statement.{statement}
 use Rattle.image_records.proofs.number.Tie as tie
 use native.Mathlib.Omega.{arith}

@@ -1,3 +1,4 @@
+-- Each turn passes one printable byte: the bytes from i on are all printable exactly if all of them are; the bytes left fall.
 use Rattle.image_records.proofs.plain.Statement.{statement}
 use Rattle.image_records.proofs.plain.Tie as tie
 use native.Mathlib.Omega.{arith}

@@ -1,3 +1,4 @@
+-- One case for each tag: the tests so far compute `recordOf` to that tag's rule, which the function called promises.
 use borrow.Author.Needs.{needs}
 use Rattle.image_records.proofs.record_of.Statement.{statement}
 use Rattle.image_records.proofs.record_of.Tie as tie

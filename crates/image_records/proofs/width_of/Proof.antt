@@ -1,3 +1,4 @@
+-- A kind below 21 is read in `widths` on both sides, and no width there is above 8; any other is past its end, where the width is 0.
 use borrow.Author.Needs.{needs}
 use Rattle.image_records.proofs.width_of.Statement.{statement}
 use Rattle.image_records.proofs.width_of.Tie as tie

@@ -1,3 +1,4 @@
+-- One case for each record: the state and what the slices hold grow by what it adds, as the functions called promise; a fault adds nothing.
 use borrow.Author.Needs.{needs}
 use Rattle.image_store.proofs.accept.Statement.{statement}
 use Rattle.image_store.proofs.accept.Tie as tie

@@ -1,3 +1,4 @@
+-- Every field but the part is computed alike on both sides; the part is what `part_after` promises.
 use borrow.Author.Needs.{needs}
 use Rattle.image_store.proofs.after_code.Statement.{statement}
 use Rattle.image_store.proofs.after_code.Tie as tie

@@ -1,3 +1,4 @@
+-- Every field but `named` is computed alike on both sides; `named` is what `higher` promises.
 use borrow.Author.Needs.{needs}
 use Rattle.image_store.proofs.after_constant.Statement.{statement}
 use Rattle.image_store.proofs.after_constant.Tie as tie

@@ -1,3 +1,4 @@
+-- One case for each outcome of the two tests, which are those of `namedBy`: both sides compute to the same number.
 use Rattle.image_store.proofs.higher.Statement.{statement}
 use Rattle.image_store.proofs.higher.Tie as tie
 use borrow.Author.Tests.{lt-ltb, le-ltb, eq-eqb, ne-eqb}

@@ -1,3 +1,4 @@
+-- The code tests n against 64 as `partAfter` does: either way both sides compute to the same part.
 use Rattle.image_store.proofs.part_after.Statement.{statement}
 use Rattle.image_store.proofs.part_after.Tie as tie
 use borrow.Author.Tests.{eq-eqb, ne-eqb}

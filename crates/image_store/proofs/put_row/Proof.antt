@@ -1,3 +1,4 @@
+-- Each of the four writes adds one number behind what is held up to there, and leaves what comes after the row: by `row-put` and `row-behind`.
 use borrow.Author.Needs.{needs}
 use Rattle.image_store.proofs.put_row.Statement.{statement}
 use Rattle.image_store.proofs.put_row.Tie as tie

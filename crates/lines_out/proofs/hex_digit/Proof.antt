@@ -1,3 +1,4 @@
+-- Below 10 and from 10 on are the two cases of `hexDigit`: `low-hex` and `high-hex`.
 use borrow.Author.Needs.{needs}
 use Rattle.lines_out.proofs.hex_digit.Statement.{statement}
 use Rattle.lines_out.proofs.hex_digit.Tie as tie

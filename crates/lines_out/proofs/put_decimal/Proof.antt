@@ -1,3 +1,4 @@
+-- `io::decimal` leaves the fewest digits that say n, which are `decimal n` and at most 20; they are put as they lie.
 use borrow.Author.Needs.{needs}
 use Rattle.lines_out.proofs.put_decimal.Statement.{statement}
 use Rattle.lines_out.proofs.put_decimal.Tie as tie

@@ -1,3 +1,4 @@
+-- Each turn puts the two digits of one byte more: up to `to` stands the hexadecimal of the first i bytes; the bytes left fall.
 use Rattle.lines_out.proofs.put_hex.Statement.{statement}
 use Rattle.lines_out.proofs.put_hex.Tie as tie
 use mathlib.Core.Path.{_≡_, refl, _∙_}

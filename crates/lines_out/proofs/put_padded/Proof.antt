@@ -1,3 +1,4 @@
+-- Fewer than four digits come behind the zeros that are missing, `padded-put`; four or more are put as they are, `whole-put`.
 use borrow.Author.Needs.{needs}
 use Rattle.lines_out.proofs.put_padded.Statement.{statement}
 use Rattle.lines_out.proofs.put_padded.Tie as tie

@@ -1,3 +1,4 @@
+-- Each piece is put where the one before it ends, so all five together are the words of the line: by `then`, from the last piece to the first.
 use borrow.Author.Needs.{needs}
 use Rattle.lines_out.proofs.put_refused.Statement.{statement}
 use Rattle.lines_out.proofs.put_refused.Tie as tie

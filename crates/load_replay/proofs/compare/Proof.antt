@@ -1,3 +1,4 @@
+-- The slices are cut where they may be: `text` has at least n bytes and `line` at least 3 by the tests before. No more is promised.
 use borrow.Author.Needs.{needs}
 use Rattle.load_replay.proofs.compare.Statement.{statement}
 use Rattle.load_replay.proofs.compare.Tie as tie

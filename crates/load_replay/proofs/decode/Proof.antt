@@ -1,3 +1,4 @@
+-- Each turn reads two digits more and keeps the length of `out`: every read and write is within its slice, and the bytes left fall.
 use Rattle.load_replay.proofs.decode.Statement.{statement}
 use Rattle.load_replay.proofs.decode.Tie as tie
 use native.Mathlib.Omega.{arith}

@@ -1,3 +1,4 @@
+-- The slice up to n is cut only where `bytes` has as many. No more is promised.
 use borrow.Author.Needs.{needs}
 use Rattle.load_replay.proofs.first_answer.Statement.{statement}
 use Rattle.load_replay.proofs.first_answer.Tie as tie

@@ -1,3 +1,4 @@
+-- What `low_word` promises of the float is what is wanted of p, as `f64_of_word` gives the float of the bits p.
 use borrow.Author.Needs.{needs}
 use mathlib.Core.Path.{_≡_, ap, _∙_}
 use lib.Ieee.{Float, toSigned}

@@ -1,3 +1,4 @@
+-- The test holds exactly where p + q is below 2^64: then the sum is in range, by `wide-value`, and else beyond it, by `beyond`.
 use borrow.Author.Needs.{needs}
 use native.Mathlib.Omega.{arith}
 use mathlib.Core.Bool.{false}

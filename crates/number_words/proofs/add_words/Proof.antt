@@ -1,3 +1,4 @@
+-- The sum of two places less `negatives` is the place of the sum of the numbers: below all places, at one, or above all.
 use borrow.Author.Needs.{needs}
 use native.Mathlib.Omega.{arith}
 use mathlib.Core.Path.{_≡_, _∙_}

@@ -1,3 +1,4 @@
+-- A place below zero's is that far down from zero, any other that far up: one case each, with the sign computed from the test.
 use borrow.Author.Needs.{needs}
 use borrow.Author.Tests.{lt-ltb, le-ltb}
 use native.Mathlib.Omega.{arith}

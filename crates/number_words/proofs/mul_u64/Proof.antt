@@ -1,3 +1,4 @@
+-- p is 0, or q is compared with (2^64 - 1) / p: up to it the product fits, above it the product is 2^64 or more.
 use borrow.Author.Needs.{needs}
 use native.Mathlib.Omega.{arith}
 use native.Mathlib.Nat.{zero-mul}

@@ -1,3 +1,5 @@
+-- Two factors of the same sign have a product at or above zero's place, of different signs at or below it; each is at a place of the kind
+-- or past all of them.
 use borrow.Author.Needs.{needs}
 use native.Mathlib.Omega.{arith}
 use mathlib.Core.Path.{_≡_, refl, _∙_}

@@ -1,3 +1,4 @@
+-- One case for each order: the tests of the words are those of the numbers.
 use borrow.Author.Tests.{lt-ltb, le-ltb}
 use lib.IntN.{pos}
 use Rattle.number_comparison.proofs.Orders.{order-less, order-greater, order-equal}

@@ -1,3 +1,4 @@
+-- One case for each order: places are in the order of their numbers, by `less-is`.
 use borrow.Author.Needs.{needs}
 use borrow.Author.Tests.{lt-ltb, le-ltb}
 use mathlib.Core.Path.{_≡_, _∙_, sym, ap}

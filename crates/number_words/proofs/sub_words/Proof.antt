@@ -1,3 +1,4 @@
+-- The difference of two places plus `negatives` is the place of the difference of the numbers: below all places, at one, or above all.
 use borrow.Author.Needs.{needs}
 use native.Mathlib.Omega.{arith}
 use mathlib.Core.Path.{_≡_, _∙_}

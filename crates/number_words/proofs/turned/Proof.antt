@@ -1,3 +1,4 @@
+-- The code tests p as `turn` does: either way both sides compute to the same, and that it is one of the kind's places is arithmetic.
 use borrow.Author.Needs.{needs}
 use borrow.Author.Tests.{lt-ltb, le-ltb}
 use native.Mathlib.Omega.{arith}

@@ -1,3 +1,4 @@
+-- Nothing is promised of the number: each turn reads one byte within the line, and the bytes left fall.
 use Rattle.run_replay.proofs.number.Statement.{statement}
 use Rattle.run_replay.proofs.number.Tie as tie
 use native.Mathlib.Omega.{arith}

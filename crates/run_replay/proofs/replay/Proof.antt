@@ -1,3 +1,4 @@
+-- Each turn takes one line more: `from` is at most `at` and `at` at most the length, so every slice lies within the list; the bytes left fall.
 use Rattle.run_replay.proofs.replay.Statement.{statement}
 use Rattle.run_replay.proofs.replay.Tie as tie
 use borrow.Author.Needs.{needs}

@@ -1,3 +1,4 @@
+-- The slice up to `room` is lent only where `result` is as long. No more is promised.
 use borrow.Author.Needs.{needs}
 use Rattle.run_replay.proofs.runs_within.Statement.{statement}
 use Rattle.run_replay.proofs.runs_within.Tie as tie

@@ -1,3 +1,4 @@
+-- Nothing is promised of the answer: both reads of a turn are within their slices by the tests before them, and the turns left fall.
 use Rattle.run_replay.proofs.same_bytes.Statement.{statement}
 use Rattle.run_replay.proofs.same_bytes.Tie as tie
 use native.Mathlib.Omega.{arith}

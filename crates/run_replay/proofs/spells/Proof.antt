@@ -1,3 +1,4 @@
+-- Nothing is promised of the answer: the reads of a turn are within their slices by the tests before them, and the digits left fall.
 use Rattle.run_replay.proofs.spells.Statement.{statement}
 use Rattle.run_replay.proofs.spells.Tie as tie
 use native.Mathlib.Omega.{arith}

@@ -1,3 +1,4 @@
+-- The work arrays have the lengths that `run` asks for, so its answer is the definition's for the bytes; `spell` puts its line.
 use borrow.Author.Needs.{needs}
 use Rattle.runner.proofs.answer_line.Statement.{statement}
 use Rattle.runner.proofs.answer_line.Tie as tie

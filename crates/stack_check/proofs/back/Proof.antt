@@ -1,3 +1,4 @@
+-- Where there is a target it is the difference; where there is none, a is greater and the difference of naturals is 0.
 use borrow.Author.Needs.{needs}
 use Rattle.stack_check.proofs.back.Statement.{statement}
 use Rattle.stack_check.proofs.back.Tie as tie

@@ -1,3 +1,4 @@
+-- What `judge` finds for the chunk of this code and these kinds holds for every chunk with them; the slices are zero as `clear_usize` leaves them.
 use borrow.Author.Needs.{needs}
 use Rattle.stack_check.proofs.check_chunk.Statement.{statement}
 use Rattle.stack_check.proofs.check_chunk.Tie as tie

@@ -1,3 +1,4 @@
+-- `inspect` gives the definition's fault, and `reason_of` keeps its number; that it finds none contradicts what is required.
 use borrow.Author.Needs.{needs}
 use Rattle.stack_check.proofs.fault_reason.Statement.{statement}
 use Rattle.stack_check.proofs.fault_reason.Tie as tie

@@ -1,3 +1,4 @@
+-- The sum is far below the greatest offset, so `jump_forward` goes to it.
 use borrow.Author.Needs.{needs}
 use Rattle.stack_check.proofs.forward.Statement.{statement}
 use Rattle.stack_check.proofs.forward.Tie as tie

@@ -1,3 +1,5 @@
+-- Each turn handles one offset of `todo`: `Progress` holds throughout, and `head` rises, at most to the length of `heights`. At the end
+-- `Progress` makes the answer the definition's: the lowest fault, a pass, or no heights.
 use Rattle.stack_check.proofs.judge.Statement.{statement}
 use Rattle.stack_check.proofs.judge.Tie as tie
 use native.Mathlib.Omega.{arith}

@@ -1,3 +1,4 @@
+-- Each turn judges one chunk: those below c pass, so the first that does not is the lowest, and at the end all pass; the chunks left fall.
 use Rattle.stack_check.proofs.judge_all.Statement.{statement}
 use Rattle.stack_check.proofs.judge_all.Tie as tie
 use native.Mathlib.Omega.{arith}

@@ -1,3 +1,4 @@
+-- The row and the next one lie within the table, so the two slices that `judge` gets are the chunk's code and kinds; its answer is that of the row.
 use Rattle.stack_check.proofs.judge_row.Statement.{statement}
 use Rattle.stack_check.proofs.judge_row.Tie as tie
 use native.Mathlib.Omega.{arith}

@@ -1,3 +1,4 @@
+-- One case for each way out: 0 where a test contradicts a field of `Fit`, 1 where the tests so far give all of its fields.
 use borrow.Author.Needs.{needs}
 use Rattle.stack_check.proofs.meets.Statement.{statement}
 use Rattle.stack_check.proofs.meets.Tie as tie

@@ -1,3 +1,4 @@
+-- One case for each flow: `secondOf` computes to the next instruction, or to what `forward` or `back` promises.
 use borrow.Author.Needs.{needs}
 use Rattle.stack_check.proofs.second_of.Statement.{statement}
 use Rattle.stack_check.proofs.second_of.Tie as tie

@@ -1,3 +1,4 @@
+-- Nothing comes after an instruction that ends; else the two visits arrive at all that comes after, and the second keeps what the first noted.
 use borrow.Author.Needs.{needs}
 use Rattle.stack_check.proofs.spread.Statement.{statement}
 use Rattle.stack_check.proofs.spread.Tie as tie

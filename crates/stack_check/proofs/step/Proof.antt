@@ -1,3 +1,4 @@
+-- Three ways: a fault below `low`, a fault that is not, and an instruction that `handle` takes. `Progress` holds after each, one offset on.
 use borrow.Author.Needs.{needs}
 use Rattle.stack_check.proofs.step.Statement.{statement}
 use Rattle.stack_check.proofs.step.Tie as tie

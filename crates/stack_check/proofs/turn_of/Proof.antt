@@ -1,3 +1,4 @@
+-- One case for each flow: the four numbers that `asks` promises are those of `turnOf`.
 use borrow.Author.Needs.{needs}
 use Rattle.stack_check.proofs.turn_of.Statement.{statement}
 use Rattle.stack_check.proofs.turn_of.Tie as tie

@@ -1,3 +1,5 @@
+-- Control comes past the end, to an offset not seen yet, which is noted, or to one seen. Where height or depth do not agree, no assignment
+-- of heights exists, and `bad` is set.
 use borrow.Author.Needs.{needs}
 use Rattle.stack_check.proofs.visit.Statement.{statement}
 use Rattle.stack_check.proofs.visit.Tie as tie

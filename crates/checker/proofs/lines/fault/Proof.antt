@@ -1,3 +1,4 @@
+-- Each piece is put where the one before it ends, so all seven together are the words of the line: by `then`, from the last piece to the first.
 use borrow.Author.Needs.{needs}
 use Rattle.checker.proofs.lines.fault.Statement.{statement}
 use Rattle.checker.proofs.lines.fault.Tie as tie

@@ -1,3 +1,4 @@
+-- One case for each answer of `check`: what is put is `checkerLine` of it, as the number put is that of its reason.
 use borrow.Author.Needs.{needs}
 use Rattle.checker.proofs.lines.spell.Statement.{statement}
 use Rattle.checker.proofs.lines.spell.Tie as tie

@@ -1,3 +1,4 @@
+-- What `run` promises of the answer and of the memory is passed on; each number written is what its function promises of that answer.
 use borrow.Author.Needs.{needs}
 use Rattle.rl_vm.proofs.run_export.rl_vm_run.Statement.{statement}
 use Rattle.rl_vm.proofs.run_export.rl_vm_run.Tie as tie

@@ -1,3 +1,4 @@
+-- One case for each answer: `runCount` computes to 0 for a refusal, to the count for a value and for a stop.
 use borrow.Author.Needs.{needs}
 use Rattle.run_answers.proofs.run_numbers.run_count.Statement.{statement}
 use Rattle.run_answers.proofs.run_numbers.run_count.Tie as tie

@@ -1,3 +1,4 @@
+-- One case for each answer: 0 for a value, and for the others what `refusal_number` or `stop_number` promises of the reason.
 use borrow.Author.Needs.{needs}
 use Rattle.run_answers.proofs.run_numbers.run_number.Statement.{statement}
 use Rattle.run_answers.proofs.run_numbers.run_number.Tie as tie

@@ -1,3 +1,4 @@
+-- One case for each answer: `runOffset` computes to 0 for a refusal and for a value, to the offset for a stop.
 use borrow.Author.Needs.{needs}
 use Rattle.run_answers.proofs.run_numbers.run_offset.Statement.{statement}
 use Rattle.run_answers.proofs.run_numbers.run_offset.Tie as tie

@@ -1,3 +1,4 @@
+-- One case for each reason: `reasonNumber` computes to the number answered.
 use borrow.Author.Needs.{needs}
 use Rattle.run_answers.proofs.run_numbers.stop_number.Statement.{statement}
 use Rattle.run_answers.proofs.run_numbers.stop_number.Tie as tie

@@ -1,3 +1,4 @@
+-- One case for each answer of `run`: what is put is `answerLine` of it, as the number put is that of its reason.
 use borrow.Author.Needs.{needs}
 use Rattle.runner.proofs.lines.spell.Statement.{statement}
 use Rattle.runner.proofs.lines.spell.Tie as tie

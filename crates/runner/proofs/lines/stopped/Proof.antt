@@ -1,3 +1,5 @@
+-- Each piece is put where the one before it ends, so all nine together are the words of the line: by `then`, from the last piece to the first.
+-- The room for the last pieces is counted from the most that each piece before them takes.
 use borrow.Author.Needs.{needs}
 use Rattle.runner.proofs.lines.stopped.Statement.{statement}
 use Rattle.runner.proofs.lines.stopped.Tie as tie

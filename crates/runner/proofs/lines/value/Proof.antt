@@ -1,3 +1,5 @@
+-- Each piece is put where the one before it ends, so all five together are the words of the line: by `then`, from the last piece to the first.
+-- The room for the last is counted with two digits for each byte of the result.
 use borrow.Author.Needs.{needs}
 use Rattle.runner.proofs.lines.value.Statement.{statement}
 use Rattle.runner.proofs.lines.value.Tie as tie

@@ -1,3 +1,5 @@
+-- With cells too few or a tree too deep nothing is coded, as the contract says; else `nest` gives what `code_value` asks, and what it codes
+-- is the tree.
 use mathlib.Core.Path.{_≡_, refl, sym, ap, _∙_, subst}
 use native.Mathlib.Omega.{arith}
 use Prim.Native.Nat.{ℕ, _+_, _*_, _≤_, _<_}

@@ -1,3 +1,5 @@
+-- With slices too short or trees too deep nothing is compared, as the contract says; else the two calls of `nest` give what `equal` asks,
+-- and its answer is that for the trees.
 use mathlib.Core.Path.{_≡_, refl, sym, ap, _∙_, subst}
 use native.Mathlib.Omega.{arith}
 use Prim.Native.Nat.{ℕ, _+_, _*_, _≤_, _<_}

@@ -1,3 +1,4 @@
+-- The two stores leave x and y in the four words, so what `build_sequence` promises is the value of these two: by `paired`.
 use mathlib.Core.Path.{_≡_, refl, sym, ap, _∙_, subst}
 use native.Mathlib.Omega.{arith}
 use Rattle.value_bombs.proofs.Nesting.{paired}

@@ -1,3 +1,4 @@
+-- The kind, the size and the word are those of `headerOf`, each by the function that gives it.
 use mathlib.Core.Path.{_≡_, refl, sym, ap, _∙_, subst}
 use Rattle.values.specs.Flat.{headOf}
 use Rattle.value_coding.proofs.Codes.{header-made}
