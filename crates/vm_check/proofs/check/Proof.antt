@@ -1,3 +1,4 @@
+-- The answer is that of `judge`. The four clearings behind it leave every slice zero to its end.
 use borrow.Author.Needs.{needs}
 use Rattle.vm_check.proofs.check.Statement.{statement}
 use Rattle.vm_check.proofs.check.Tie as tie

@@ -1,3 +1,5 @@
+-- `check_image` is lent the first 4,096 entries of each of the three slices, which is what it asks for (`lent`); its pass and its fault are passed
+-- on.
 use borrow.Author.Needs.{needs}
 use Rattle.vm_check.proofs.check_loaded.Statement.{statement}
 use Rattle.vm_check.proofs.check_loaded.Tie as tie

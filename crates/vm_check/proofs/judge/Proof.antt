@@ -1,3 +1,5 @@
+-- Where one of the three slices of the stack check is short, the image is refused before `load` is called (`short-checks`). What `load` refuses is
+-- refused (`refused-checks`), and what it leaves is ready for `check_loaded`, whose answer is passed on (`loaded-checks`).
 use borrow.Author.Needs.{needs}
 use native.Mathlib.Omega.{arith}
 use Rattle.vm_check.proofs.judge.Statement.{statement}
