@@ -21,8 +21,7 @@ slice-relend-prefix-clear-u8 c =
 -- src/lib.rt:138:14
 slice-aggregate-clear-u8 : tie.Need-slice-aggregate-clear-u8
 slice-aggregate-clear-u8 c =
-    let before = c .before .before .before .before .before .before in
-    let start = before in
+    let start = c .before .before .before .before .before .before in
     sym (length-take-le _ (start .args .bytes .now) (omega (arith, start .pre .room-bytes)))
 
 -- src/lib.rt:138:5
@@ -38,8 +37,7 @@ slice-relend-prefix-clear-usize c =
 -- src/lib.rt:139:17
 slice-aggregate-clear-usize : tie.Need-slice-aggregate-clear-usize
 slice-aggregate-clear-usize c =
-    let before = c .before .before .before .before .before .before .before .before .before .before in
-    let start = before in
+    let start = c .before .before .before .before .before .before .before .before .before .before in
     sym (length-take-le _ (start .args .ends .now) (omega (arith, start .pre .room-ends)))
 
 -- src/lib.rt:139:5
@@ -55,8 +53,7 @@ slice-relend-prefix-clear-u8-2 c =
 -- src/lib.rt:140:14
 slice-aggregate-clear-u8-2 : tie.Need-slice-aggregate-clear-u8-2
 slice-aggregate-clear-u8-2 c =
-    let before = c .before .before .before .before .before .before .before .before .before .before .before .before .before .before in
-    let start = before in
+    let start = c .before .before .before .before .before .before .before .before .before .before .before .before .before .before in
     sym (length-take-le _ (start .args .kinds .now) (omega (arith, start .pre .room-kinds)))
 
 -- src/lib.rt:140:5
@@ -72,8 +69,7 @@ slice-relend-prefix-clear-u64 c =
 -- src/lib.rt:141:15
 slice-aggregate-clear-u64 : tie.Need-slice-aggregate-clear-u64
 slice-aggregate-clear-u64 c =
-    let before = c .before .before .before .before .before .before .before .before .before .before .before .before .before .before .before .before .before .before in
-    let start = before in
+    let start = c .before .before .before .before .before .before .before .before .before .before .before .before .before .before .before .before .before .before in
     sym (length-take-le _ (start .args .payloads .now) (omega (arith, start .pre .room-payloads)))
 
 -- src/lib.rt:141:5
@@ -90,9 +86,8 @@ slice-relend-prefix-clear-usize-2 c =
 -- src/lib.rt:142:17
 slice-aggregate-clear-usize-2 : tie.Need-slice-aggregate-clear-usize-2
 slice-aggregate-clear-usize-2 c =
-    let before = c .before .before .before .before .before .before .before .before .before .before .before .before .before .before .before .before .before .before .before .before .before .before
+    let start = c .before .before .before .before .before .before .before .before .before .before .before .before .before .before .before .before .before .before .before .before .before .before
     in
-    let start = before in
     sym (length-take-le _ (start .args .table .now) (omega (arith, start .pre .room-table)))
 
 -- src/lib.rt:142:5
@@ -127,9 +122,8 @@ returns c =
     let clear-u82 = c .before .before .before .before .before .before .before .before .before .before .clear-u82 in
     let clear-usize = c .before .before .before .before .before .before .before .before .before .before .before .before .before .before .clear-usize in
     let clear-u8 = c .before .before .before .before .before .before .before .before .before .before .before .before .before .before .before .before .before .before .clear-u8 in
-    let before = c .before .before .before .before .before .before .before .before .before .before .before .before .before .before .before .before .before .before .before .before .before .before .before .before .before
+    let start = c .before .before .before .before .before .before .before .before .before .before .before .before .before .before .before .before .before .before .before .before .before .before .before .before .before
     in
-    let start = before in
     same-slices
     (let done = clear-u8 in cleared 32768 (start .args .bytes .now) (done .last .0) (done .kept .0) (start .pre .room-bytes) (done .ensures))
     (let done = clear-usize in cleared 256 (start .args .ends .now) (done .last .0) (done .kept .0) (start .pre .room-ends) (done .ensures))

@@ -46,11 +46,9 @@ same-length-5 c = search needs
 returns : tie.Need-returns
 returns c =
     let blank2 = c .before .before .before .before .before .before .before .before .before .before .blank in
-    let before = c .before .before .before .before .before .before .before .before .before .before .before .before .before .before .before .before in
-    let load-lines = c .before .before .before .before .before .before .before .before .before .before .before .before .before .before .before .before .before .before .before .before .before .before .before .before .before .before .before .before .load-lines
+    let test = c .before .before .before .before .before .before .before .before .before .before .before .before .before .before .before .before in
+    let read = c .before .before .before .before .before .before .before .before .before .before .before .before .before .before .before .before .before .before .before .before .before .before .before .before .before .before .before .before .load-lines
     in
-    let test = before in
-    let read = load-lines in
     settled-refused _ _ _ _ (read .result) (read .ensures) (sym (test .before .is-refused .ensures) ∙ test .if1 .taken) (blank2 .ensures)
 
 -- src/lib.rt:155:1
@@ -76,8 +74,7 @@ same-length-10 c = search needs
 -- src/lib.rt:155:1
 returns-2 : tie.Need-returns-2
 returns-2 c =
-    let load-lines = c .before .before .before .before .before .before .before .before .before .before .before .before .load-lines in
-    let read = load-lines in
+    let read = c .before .before .before .before .before .before .before .before .before .before .before .before .load-lines in
     settled-loaded _ _ _ (read .result) (read .ensures) (sym (c .before .is-refused .ensures) ∙ c .if1 .left)
 
 pub load-roomy-spec : {M : Type 1} → statement M

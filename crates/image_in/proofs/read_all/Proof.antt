@@ -31,11 +31,9 @@ same-length c =
 
 returns : tie.Need-returns Inv-loop μ-loop
 returns c =
-    let read-part = c .before .before .before .before .before .read-part in
+    let part = c .before .before .before .before .before .read-part in
     let loop-test = c .before .before .before .before .before .before .before .loop-test in
-    let loop2 = c .before .before .before .before .before .before .before .before .loop in
-    let loop = loop2 in
-    let part = read-part in
+    let loop = c .before .before .before .before .before .before .before .before .loop in
     let test = loop-test .taken in
     let same = toZ-ofZ {w = w64} {z = part .result .last} (record { sfits = c .before .struct-told .given .1 .0 .1 }) in
     over-at (part .result .last) _ (loop .at) (part .result .at) (length (part .last .0)) same (c .if1 .taken) (part .ensures .0) (omega (
@@ -46,11 +44,9 @@ returns c =
 
 loop-less : tie.Need-loop-less Inv-loop μ-loop
 loop-less c =
-    let read-part = c .before .before .before .before .before .read-part in
+    let part = c .before .before .before .before .before .read-part in
     let loop-test = c .before .before .before .before .before .before .before .loop-test in
-    let loop2 = c .before .before .before .before .before .before .before .before .loop in
-    let loop = loop2 in
-    let part = read-part in
+    let loop = c .before .before .before .before .before .before .before .before .loop in
     let test = loop-test .taken in
     let same = toZ-ofZ {w = w64} {z = part .result .last} (record { sfits = c .before .struct-told .given .1 .0 .1 }) in
     let f = further (part .result .last) _ (loop .at) (part .result .at) (length (loop .buf)) same (c .if1 .left) (part .ensures .0) (part .ensures .1)
@@ -59,11 +55,9 @@ loop-less c =
 
 loop-again : tie.Need-loop-again Inv-loop μ-loop
 loop-again c =
-    let read-part = c .before .before .before .before .before .read-part in
+    let part = c .before .before .before .before .before .read-part in
     let loop-test = c .before .before .before .before .before .before .before .loop-test in
-    let loop2 = c .before .before .before .before .before .before .before .before .loop in
-    let loop = loop2 in
-    let part = read-part in
+    let loop = c .before .before .before .before .before .before .before .before .loop in
     let test = loop-test .taken in
     let same = toZ-ofZ {w = w64} {z = part .result .last} (record { sfits = c .before .struct-told .given .1 .0 .1 }) in
     let f = further (part .result .last) _ (loop .at) (part .result .at) (length (loop .buf)) same (c .if1 .left) (part .ensures .0) (part .ensures .1)

@@ -41,10 +41,8 @@ same-length c = search needs
 
 returns : tie.Need-returns
 returns c =
-    let read2 = c .before .before .before .before .before .read in
-    let args2 = c .before .before .before .before .before .before .before .before .args in
-    let read = read2 in
-    let args = args2 in
+    let read = c .before .before .before .before .before .read in
+    let args = c .before .before .before .before .before .before .before .before .args in
     let same = toZ-ofZ {w = w64} {z = read .result} (record { sfits = read .ok }) in
     part-read (read .result) _ (args .at) (c .count .result) (args .buf .now) (putMid (args .at) (length (args .buf .now) - args .at) (args .buf .now)
     (read .last .1 .0)) same (read .ensures) (same-len-mid (args .at) (length (args .buf .now) - args .at) (args .buf .now) (read .last .1 .0)

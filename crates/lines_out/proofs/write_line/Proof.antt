@@ -7,8 +7,7 @@ use Rattle.lines_out.proofs.write_line.Tie as tie
 
 slice-aggregate-write-all : tie.Need-slice-aggregate-write-all
 slice-aggregate-write-all c =
-    let before = c .before .before .before in
-    let start = before in
+    let start = c .before .before .before in
     sym (length-take-le _ _ (start .pre))
 
 write-all-requires : tie.Need-write-all-requires

@@ -32,16 +32,14 @@ returns : tie.Need-returns
 returns c =
     let number-of = c .before .before .before .number-of in
     let value-at = c .before .before .before .before .value-at in
-    let args2 = c .before .before .before .before .before .args in
-    let args = args2 in
+    let args = c .before .before .before .before .before .args in
     at (args .code) (args .w) (value-at .ensures .0) (number-of .ensures) (c .before .n .given .1)
 
 returns-2 : tie.Need-returns-2
 returns-2 c =
     let number-of = c .before .before .number-of in
     let value-at = c .before .before .before .value-at in
-    let args2 = c .before .before .before .before .args in
-    let args = args2 in
+    let args = c .before .before .before .before .args in
     at (args .code) (args .w) (value-at .ensures .0) (number-of .ensures) (c .enum-told .given .1)
 
 pub number-of-payload-spec : {M : Type 1} → statement M

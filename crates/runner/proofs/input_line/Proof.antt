@@ -9,8 +9,7 @@ use Rattle.runner.proofs.input_line.Tie as tie
 
 slice-aggregate-answer-line : tie.Need-slice-aggregate-answer-line
 slice-aggregate-answer-line c =
-    let before = c .before .before .before in
-    let start = before in
+    let start = c .before .before .before in
     sym (length-take-le (start .args .n) (start .args .read .now) (start .pre .1))
 
 answer-line-requires : tie.Need-answer-line-requires
@@ -21,10 +20,8 @@ same-length c = search needs
 
 returns : tie.Need-returns
 returns c =
-    let answer-line = c .before .before .answer-line in
-    let before = c .before .before .before .before .before .before .before in
-    let start = before in
-    let line = answer-line in (
+    let line = c .before .before .answer-line in
+    let start = c .before .before .before .before .before .before .before in (
       λ input r. of-input (start .args .read .now) input (start .args .out .now) (line .last .1 .0) (start .args .n) (line .result) (start .pre .0)
           (start .pre .1) (line .ensures) r,
       inside (line .ensures),

@@ -8,8 +8,8 @@ use Rattle.stack_check.proofs.Theory.{progress-broken, unfit-wrong, com
 
 node-of-requires : tie.Need-node-of-requires
 node-of-requires c κs =
-    let before = c .before .before .before .before .before in
-    let s = before in drawn (s .pre .3) (omega (arith, s .good))
+    let s = c .before .before .before .before .before in
+    drawn (s .pre .3) (omega (arith, s .good))
 
 mul-h : tie.Need-mul-h
 mul-h c = search needs
@@ -34,8 +34,7 @@ spread-requires c κs =
     let if1 = c .before .before .before .if1 in
     let meets2 = c .before .before .before .before .meets in
     let node-of = c .before .before .before .before .before .before .before .node-of in
-    let before = c .before .before .before .before .before .before .before .before .before .before .before .before .before in
-    let s = before in
+    let s = c .before .before .before .before .before .before .before .before .before .before .before .before .before in
     let node = node-here (s .pre .3) (node-of .ensures) in
     let wrong = unfit-wrong (s .pre .0) _ (s .pre .1) (s .pre .2) node (meets2 .ensures .not (if1 .taken)) in
     (progress-broken (s .pre .0) wrong, coming-wrong (s .pre .0) _ (s .pre .1) (s .pre .2) node _ wrong)
@@ -53,17 +52,15 @@ returns : tie.Need-returns
 returns c =
     let spread = c .before .before .before .before .before .before .spread in
     let node-of = c .before .before .before .before .before .before .before .before .before .before .before .before .before .before .node-of in
-    let before = c .before .before .before .before .before .before .before .before .before .before .before .before .before .before .before .before .before .before .before .before
+    let s = c .before .before .before .before .before .before .before .before .before .before .before .before .before .before .before .before .before .before .before .before
     in
-    let s = before in
     let node = node-here (s .pre .3) (node-of .ensures) in
     handling-wrong (s .pre .0) _ (s .pre .1) (s .pre .2) node (spread .ensures)
 
 height-after-requires : tie.Need-height-after-requires
 height-after-requires c κs =
     let node-of = c .before .before .before .before .node-of in
-    let before = c .before .before .before .before .before .before .before .before .before .before in
-    let s = before in
+    let s = c .before .before .before .before .before .before .before .before .before .before in
     let node = node-here (s .pre .3) (node-of .ensures) in
     change-room (s .pre .0) _ (s .pre .1) (s .pre .2) node (c .before .meets .ensures .yes (c .if1 .left) .enough) (omega (arith, s .good))
 
@@ -76,8 +73,7 @@ sub-d2 c =
 add-d2 : tie.Need-add-d2
 add-d2 c =
     let node-of = c .before .before .before .before .before .before .before .node-of in
-    let before = c .before .before .before .before .before .before .before .before .before .before .before .before .before in
-    let s = before in
+    let s = c .before .before .before .before .before .before .before .before .before .before .before .before .before in
     let node = node-here (s .pre .3) (node-of .ensures) in
     let x = depth-small (s .pre .0) _ (s .pre .1) (s .pre .2) node in
     let y = tail-small (s .pre .0) _ (s .pre .1) (s .pre .2) node in
@@ -87,8 +83,7 @@ spread-requires-2 : tie.Need-spread-requires-2
 spread-requires-2 c κs =
     let height-after = c .before .before .before .before .before .height-after in
     let node-of = c .before .before .before .before .before .before .before .before .before .before .node-of in
-    let before = c .before .before .before .before .before .before .before .before .before .before .before .before .before .before .before .before in
-    let s = before in
+    let s = c .before .before .before .before .before .before .before .before .before .before .before .before .before .before .before .before in
     let node = node-here (s .pre .3) (node-of .ensures) in
     rw (height-after .ensures) (s .pre .0, coming-right (s .pre .0) _ (s .pre .1) (s .pre .2) node)
 
@@ -108,9 +103,8 @@ returns-2 c =
     let if1 = c .before .before .before .before .before .before .before .before .before .before .before .before .before .if1 in
     let meets2 = c .before .before .before .before .before .before .before .before .before .before .before .before .before .before .meets in
     let node-of = c .before .before .before .before .before .before .before .before .before .before .before .before .before .before .before .before .before .node-of in
-    let before = c .before .before .before .before .before .before .before .before .before .before .before .before .before .before .before .before .before .before .before .before .before .before .before
+    let s = c .before .before .before .before .before .before .before .before .before .before .before .before .before .before .before .before .before .before .before .before .before .before .before
     in
-    let s = before in
     let node = node-here (s .pre .3) (node-of .ensures) in
     let fit = meets2 .ensures .yes (if1 .left) in
     handling-right (s .pre .0) _ (s .pre .1) (s .pre .2) node fit (rw (height-after .ensures) at (spread2 .ensures))

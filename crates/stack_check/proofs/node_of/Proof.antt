@@ -15,27 +15,23 @@ turn-of-requires c κs = search needs
 
 mul-counted : tie.Need-mul-counted
 mul-counted c =
-    let before = c .before .before .before .before .before in
-    let s = before in
+    let s = c .before .before .before .before .before in
     record { fits = omega (arith, limits (s .args .i) (s .pre) .counted) }
 
 add-t8 : tie.Need-add-t8
 add-t8 c =
-    let before = c .before .before .before .before .before .before in
-    let s = before in
+    let s = c .before .before .before .before .before .before in
     let l = limits (s .args .i) (s .pre) in
     record { fits = omega (arith, l .need, l .counted) }
 
 cast-t9 : tie.Need-cast-t9
 cast-t9 c =
-    let before = c .before .before .before .before .before .before in
-    let s = before in
+    let s = c .before .before .before .before .before .before in
     record { sfits = omega (arith, limits (s .args .i) (s .pre) .counted) }
 
 sub-t10 : tie.Need-sub-t10
 sub-t10 c =
-    let before = c .before .before .before .before .before .before .before .before in
-    let s = before in
+    let s = c .before .before .before .before .before .before .before .before in
     let i = s .args .i in
     let l = limits i (s .pre) in
     less-fits (i .row .change) (i .row .per * i .a) (l .rises) (l .falls) (l .counted)
@@ -50,8 +46,7 @@ returns : tie.Need-returns
 returns c =
     let turn-of = c .before .before .before .before .before .before .turn-of in
     let flow-of = c .before .before .before .before .before .before .before .flow-of in
-    let before = c .before .before .before .before .before .before .before .before .before .before in
-    let s = before in
+    let s = c .before .before .before .before .before .before .before .before .before .before in
     let i = s .args .i in
     let l = limits i (s .pre) in
     node-is i _ _ _ _ _ (flow-of .ensures) (turn-of .ensures) (c .before .first-of .ensures) (c .second-of .ensures)

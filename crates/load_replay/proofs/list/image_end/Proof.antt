@@ -13,15 +13,14 @@ sub-result c = search needs
 
 returns-2 : tie.Need-returns-2
 returns-2 c =
-    let args = c .before .before .args in
-    let a = args in
+    let a = c .before .before .args in
     ((omega (arith, c .if2 .taken), omega arith), end-cut (a .mark) (a .from) (a .at) (c .before .if1 .left) (c .if2 .taken))
 
 returns-3 : tie.Need-returns-3
 returns-3 c =
-    let args = c .before .before .args in
+    let a = c .before .before .args in
     let pre = c .before .before .pre in
-    let a = args in ((pre, omega arith), end-empty (a .mark) (a .from) (a .at) (c .before .if1 .left) (c .if2 .left))
+    ((pre, omega arith), end-empty (a .mark) (a .from) (a .at) (c .before .if1 .left) (c .if2 .left))
 
 pub image-end-spec : {M : Type 1} → statement M
 image-end-spec = tie.close (tie.spec returns sub-result returns-2 returns-3)

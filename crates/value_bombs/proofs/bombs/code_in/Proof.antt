@@ -61,10 +61,8 @@ same-length-3 c = search needs
 
 returns-3 : tie.Need-returns-3
 returns-3 c =
-    let nest2 = c .before .before .before .before .nest in
-    let args = c .before .before .before .before .before .before .before .before .before .args in
-    let a = args in
-    let nested = nest2 in
+    let nested = c .before .before .before .before .nest in
+    let a = c .before .before .before .before .before .before .before .before .before .args in
     not-built (inr (too-nested (a .leaf) (a .last) (a .depth) 0 (a .cells .now) (nested .last .0) (nested .result) (omega arith) (c .enum-told .given .1)
     (nested .ensures))) refl refl
 

@@ -107,14 +107,11 @@ same-length-4 c = search needs
 
 returns-4 : tie.Need-returns-4
 returns-4 c =
-    let nest2 = c .before .before .before .before .nest2 in
+    let nested = c .before .before .before .before .nest2 in
     let a2 = c .before .before .before .before .before .before .before .a in
-    let nest3 = c .before .before .before .before .before .before .before .before .before .before .before .nest in
-    let args = c .before .before .before .before .before .before .before .before .before .before .before .before .before .before .before .before .before .before .before .before .before .args
+    let first = c .before .before .before .before .before .before .before .before .before .before .before .nest in
+    let a = c .before .before .before .before .before .before .before .before .before .before .before .before .before .before .before .before .before .before .before .before .before .args
     in
-    let a = args in
-    let first = nest3 in
-    let nested = nest2 in
     let given = a2 .given in
     let at = nested-at (a .left) (a .left-last) (a .depth) 0 (a .cells .now) (first .last .0) (first .result) (given .0 .0) (given .0 .1 .0)
     (given .1) (first .ensures) in
@@ -130,10 +127,8 @@ same-length-6 c = search needs
 
 returns-5 : tie.Need-returns-5
 returns-5 c =
-    let nest2 = c .before .before .before .before .nest in
-    let args = c .before .before .before .before .before .before .before .before .before .before .before .before .before .before .args in
-    let a = args in
-    let nested = nest2 in
+    let nested = c .before .before .before .before .nest in
+    let a = c .before .before .before .before .before .before .before .before .before .before .before .before .before .before .args in
     inr (inr (too-nested (a .left) (a .left-last) (a .depth) 0 (a .cells .now) (nested .last .0) (nested .result) (omega arith) (c .enum-told2 .given .1)
     (nested .ensures)))
 

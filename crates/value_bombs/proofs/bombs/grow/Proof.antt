@@ -74,13 +74,10 @@ same-length-2 c = search needs
 
 returns-2 : tie.Need-returns-2
 returns-2 c =
-    let pair2 = c .before .before .before .before .pair2 in
+    let again = c .before .before .before .before .pair2 in
     let v = c .before .before .before .before .before .before .before .v in
-    let pair3 = c .before .before .before .before .before .before .before .before .before .before .before .pair in
-    let before = c .before .before .before .before .before .before .before .before .before .before .before .before .before .before in
-    let start = before in
-    let pair = pair3 in
-    let again = pair2 in
+    let pair = c .before .before .before .before .before .before .before .before .before .before .before .pair in
+    let start = c .before .before .before .before .before .before .before .before .before .before .before .before .before .before in
     let a = start .args in
     inl
     (no-room-then (a .x) (a .y) _ (a .nc) (a .cells .now) (pair .last .0) (again .last .0) (pair .result) (again .result) (pair .ensures) (v .given .1)
@@ -91,12 +88,9 @@ same-length-3 c = search needs
 
 returns-3 : tie.Need-returns-3
 returns-3 c =
-    let pair2 = c .before .before .before .before .pair2 in
-    let pair3 = c .before .before .before .before .before .before .before .before .before .before .before .pair in
-    let args = c .before .before .before .before .before .before .before .before .before .before .before .before .before .before .args in
-    let pair = pair3 in
-    let again = pair2 in
-    let a = args in
+    let again = c .before .before .before .before .pair2 in
+    let pair = c .before .before .before .before .before .before .before .before .before .before .before .pair in
+    let a = c .before .before .before .before .before .before .before .before .before .before .before .before .before .before .args in
     let d : 64 ≤ deepest (a .x ∷ a .x ∷ []) = too-deep (a .x) (a .x) (a .nc + 2) (pair .last .0) (again .last .0) (again .result) (again .ensures)
     (c .enum-told2 .given .1) in
     let e : 64 ≤ deepest (a .x ∷ a .y ∷ []) = omega (arith, d) in
@@ -107,10 +101,8 @@ same-length-4 c = search needs
 
 returns-4 : tie.Need-returns-4
 returns-4 c =
-    let pair2 = c .before .before .before .before .pair in
-    let before = c .before .before .before .before .before .before .before in
-    let start = before in
-    let pair = pair2 in
+    let pair = c .before .before .before .before .pair in
+    let start = c .before .before .before .before .before .before .before in
     let a = start .args in
     let h : 2 * a .nc ≤ length (a .cells .now) = omega (arith, start .pre .0, start .pre .1) in
     let f : 4096 < a .nc + 4 = omega (arith, no-room (a .x) (a .y) (a .nc) (a .cells .now) (pair .last .0) (pair .result) (pair .ensures) h (c .enum-told3 .given .1))
@@ -122,10 +114,8 @@ same-length-5 c = search needs
 
 returns-5 : tie.Need-returns-5
 returns-5 c =
-    let pair2 = c .before .before .before .before .pair in
-    let args = c .before .before .before .before .before .before .before .args in
-    let pair = pair2 in
-    let a = args in
+    let pair = c .before .before .before .before .pair in
+    let a = c .before .before .before .before .before .before .before .args in
     inr (too-deep (a .x) (a .y) (a .nc) (a .cells .now) (pair .last .0) (pair .result) (pair .ensures) (c .enum-told4 .given .1))
 
 pub grow-spec : {M : Type 1} → statement M

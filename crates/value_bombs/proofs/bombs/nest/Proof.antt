@@ -56,13 +56,10 @@ same-length c =
 
 returns : tie.Need-returns Inv-loop μ-loop
 returns c =
-    let grow2 = c .before .before .before .before .grow in
+    let grown = c .before .before .before .before .grow in
     let loop-test = c .before .before .before .before .before .before .loop-test in
-    let loop2 = c .before .before .before .before .before .before .before .loop in
-    let args = c .before .before .before .before .before .before .before .before .before .args in
-    let a = args in
-    let loop = loop2 in
-    let grown = grow2 in
+    let loop = c .before .before .before .before .before .before .before .loop in
+    let a = c .before .before .before .before .before .before .before .before .before .args in
     turn-fails (a .leaf) (a .last) (loop .i) (a .nc) (loop .n) (a .depth) (a .cells .now) (loop .cells) (grown .last .0) (loop .x) (loop .y)
     (grown .result) (loop .inv .2 (a .leaf) (a .last) refl refl) (loop-test .taken) (c .enum-told .given .1) (grown .ensures)
 
