@@ -1,7 +1,7 @@
 //! What a check says of an edit, and of its control.
 
 use crate::batch::Placed;
-use crate::prover::{Log, about_form, site};
+use crate::prover::{Log, about_form, about_parts, site};
 use crate::source::{Files, reached};
 
 /// What came of a control.
@@ -35,9 +35,8 @@ pub fn wrong(log: &Log, files: &Files, placed: &Placed) -> Result<String, String
     Ok(error.to_string())
 }
 
-/// The error of a function in which the edit lies, and which is `of` or is called by it. Where one of its errors is about the
-/// proof's form, none of them counts: with other parts a fact stands at another place. An edit of a definition, or of a constant, lies in
-/// none.
+/// The error of a function in which the edit lies, and which is `of` or is called by it: a fact that fails. Where one of its errors
+/// is about the proof's form, none of them counts. An edit of a definition, or of a constant, lies in no function.
 fn error_below<'a>(
     log: &'a Log,
     files: &Files,
@@ -53,8 +52,12 @@ fn error_below<'a>(
             Some(f) if reached.contains(f) => log.own_errors(f),
             Some(_) => Vec::new(),
         };
-        match own.iter().find(|error| about_form(error)).or(own.first()) {
-            Some(error) if about_form(error) => why = format!("refused for its form: {error}"),
+        let form = own.iter().find(|error| about_form(error));
+        let fact = own.iter().find(|error| !about_parts(error));
+        match form.or(fact).or(own.first()) {
+            Some(error) if about_form(error) || about_parts(error) => {
+                why = format!("refused for its form: {error}")
+            }
             Some(error) => return Ok(error),
             None => {}
         }
@@ -123,13 +126,17 @@ mod tests {
 
     const FACT: &str = "/p/f/Proof.antt:9:1: error: `returns`: the two types differ";
     const ELSEWHERE: &str = "/p/f/Proof.antt:7:4: error: `returns`: the two types differ";
-    const FORM: &str = "/p/f/Proof.antt:9:1: error: `tie` has no `Need-returns-2`";
+    const FORM: &str = "/p/f/Proof.antt:9:1: error: `returns`: record `After-if1` has no field `f`";
+    const PARTS: &str = "/p/f/Proof.antt:8:1: error: `add`: module `f.Tie` has no `Need-add`";
 
     #[test]
     fn an_edit_is_refused_for_a_fact() {
-        let judged = |error| wrong(&log(error, "not proved"), &files(), &edit());
+        let judged = |error: &str| wrong(&log(error, "not proved"), &files(), &edit());
         assert!(judged(FACT).unwrap().starts_with("f/Proof.antt:9:1"));
         assert!(judged(FORM).unwrap_err().contains("form"));
+        assert!(judged(PARTS).unwrap_err().contains("form"));
+        assert!(judged(&format!("{PARTS}\n{FACT}")).is_ok());
+        assert!(judged(&format!("{FACT}\n{FORM}")).is_err());
         assert!(wrong(&log("", "proved"), &files(), &edit()).is_err());
         assert!(wrong(&Log("logic=proved".to_string()), &files(), &edit()).is_err());
     }

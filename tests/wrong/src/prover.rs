@@ -115,13 +115,24 @@ fn without_numbers(text: &str) -> String {
     out
 }
 
-/// Whether an error is about the form of a proof: it names a part that the code has no longer, or gives the parts in another
-/// order. A long message is broken at any space.
+/// Whether an error is about the form of a proof: it names a part of `c` that the code has no longer, so that a fact may stand at
+/// another place.
 pub fn about_form(error: &str) -> bool {
+    let said = in_one_line(error);
+    said.contains("has no field `") || said.contains("has no `") && !about_parts(error)
+}
+
+/// Whether an error only says that the changed program asks for more or fewer parts than the proof gives. The other parts stay as
+/// they are.
+pub fn about_parts(error: &str) -> bool {
+    let said = in_one_line(error);
+    said.contains("-spec`: ") || said.contains(".Tie` has no `Need-")
+}
+
+/// A long message is broken at any space.
+fn in_one_line(error: &str) -> String {
     let words: Vec<&str> = error.split_whitespace().collect();
-    let said = words.join(" ");
-    let parts_differ = said.contains("-spec`: expected type `tie.Need-");
-    said.contains("has no `") || said.contains("has no field `") || parts_differ
+    words.join(" ")
 }
 
 #[cfg(test)]
@@ -166,9 +177,16 @@ mod tests {
         .join("\n"));
         assert!(about_form(log.own_error("low").unwrap()));
         assert!(about_form(log.first_error()));
-        let order = "low/Proof.antt:9:1: error: `low-spec`: expected type `tie.Need-a`, but this has type `tie.Need-b`";
-        assert!(about_form(order) && !about_form(&order.replace("-spec", "")));
         assert_eq!(site(log.own_error("low").unwrap()), "low/Proof.antt:9:1");
+    }
+
+    #[test]
+    fn parts_more_or_fewer_are_told_from_the_form() {
+        let more = "low/Proof.antt:9:1: error: `low-spec`: expected type `tie.Need-a`, but this has type `tie.Need-b`";
+        let fewer = "low/Proof.antt:9:1: error: `add`: `tie.Need-add`: module `m.low.Tie`\n  has no `Need-add` that can be named";
+        let form = "low/Proof.antt:9:1: error: `add`: `c` has no `if1`";
+        assert!(about_parts(more) && about_parts(fewer) && !about_parts(form));
+        assert!(!about_form(more) && !about_form(fewer) && about_form(form));
     }
 
     #[test]
