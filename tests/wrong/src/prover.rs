@@ -126,7 +126,7 @@ pub fn about_form(error: &str) -> bool {
 /// they are.
 pub fn about_parts(error: &str) -> bool {
     let said = in_one_line(error);
-    said.contains("-spec`: ") || said.contains(".Tie` has no `Need-")
+    said.contains("-spec`: ") || said.contains("` has no `Need-")
 }
 
 /// A long message is broken at any space.
