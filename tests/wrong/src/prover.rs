@@ -122,11 +122,12 @@ pub fn about_form(error: &str) -> bool {
     said.contains("has no field `") || said.contains("has no `") && !about_parts(error)
 }
 
-/// Whether an error only says that the changed program asks for more or fewer parts than the proof gives. The other parts stay as
-/// they are.
+/// Whether an error only says that the changed program asks for more or fewer parts than the proof gives, or that a slice keeps its
+/// length for another reason, as a slice that is lent elsewhere does. The other parts stay as they are.
 pub fn about_parts(error: &str) -> bool {
     let said = in_one_line(error);
-    said.contains("-spec`: ") || said.contains("` has no `Need-")
+    let of_the_whole = said.contains("-spec`: ") || said.contains(": error: `same-length");
+    of_the_whole || said.contains("` has no `Need-")
 }
 
 /// A long message is broken at any space.
@@ -185,7 +186,9 @@ mod tests {
         let more = "low/Proof.antt:9:1: error: `low-spec`: expected type `tie.Need-a`, but this has type `tie.Need-b`";
         let fewer = "low/Proof.antt:9:1: error: `add`: `tie.Need-add`: module `m.low.Tie`\n  has no `Need-add` that can be named";
         let form = "low/Proof.antt:9:1: error: `add`: `c` has no `if1`";
-        assert!(about_parts(more) && about_parts(fewer) && !about_parts(form));
+        let length = "low/Proof.antt:9:1: error: `same-length-2`: the two types differ";
+        assert!(about_parts(more) && about_parts(fewer) && about_parts(length));
+        assert!(!about_parts(form) && !about_parts(&length.replace("same-length-2", "returns")));
         assert!(!about_form(more) && !about_form(fewer) && about_form(form));
     }
 
