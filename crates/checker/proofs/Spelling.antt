@@ -15,13 +15,13 @@ use Rattle.image.specs.Answer.{numberOf, short}
 use Rattle.image_records.specs.declared.Reason as refusal
 use Rattle.stack_check.specs.Answer.{reasonNumber}
 use Rattle.stack_check.specs.declared.Reason as fault
-use Rattle.vm_check.specs.Work.{CheckWork, checkShort}
-use Rattle.vm_check.specs.Check.{answerOf, Checks}
-use Rattle.vm_check.specs.declared.CheckAnswer.{CheckAnswer}
-use Rattle.vm_check.specs.declared.CheckAnswer.the-variants.{Refused, Pass, Fault}
-use Rattle.lines_out.specs.Puts.{Puts}
-use Rattle.image_in.specs.Read.{ReadOf}
-use Rattle.image_in.proofs.Parts.{same-load}
+use Rattle.rl_check.specs.Work.{CheckWork, checkShort}
+use Rattle.rl_check.specs.Check.{answerOf, Checks}
+use Rattle.rl_check.specs.declared.CheckAnswer.{CheckAnswer}
+use Rattle.rl_check.specs.declared.CheckAnswer.the-variants.{Refused, Pass, Fault}
+use Rattle.line_output.specs.Puts.{Puts}
+use Rattle.image_input.specs.Read.{ReadOf}
+use Rattle.image_input.proofs.Parts.{same-load}
 use Rattle.checker.specs.Line.{checkerLine, Says}
 
 module _ {out out′ : List ℕ} {to : ℕ} (a : CheckAnswer) where

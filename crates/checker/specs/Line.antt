@@ -5,7 +5,7 @@ use Prim.Native.Nat.{ℕ}
 use Rattle.definition.specs.CheckAnswer.{Checked, pass, fails}
 use Rattle.definition.specs.Answers.{CheckAnswer, refusal, checked, DecidesBytes}
 use Rattle.definition.specs.Runner.{ascii, decimal, padded, words}
-use Rattle.lines_out.specs.Puts.{Puts}
+use Rattle.line_output.specs.Puts.{Puts}
 
 abbrev pub checkedLine : Checked → List ℕ
 checkedLine pass = words (ascii "pass" ∷ [])

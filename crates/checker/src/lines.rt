@@ -4,13 +4,13 @@ ghost use mathlib.Core.List.{[], _∷_};
 ghost use Prim.Native.Nat.{_≤_};
 ghost use lib.ListN.{length};
 ghost use Rattle.definition.specs.Runner.{ascii, decimal, padded, words};
-ghost use Rattle.lines_out.specs.Puts.{Puts};
-ghost use Rattle.vm_check.specs.Check.{answerOf};
+ghost use Rattle.line_output.specs.Puts.{Puts};
+ghost use Rattle.rl_check.specs.Check.{answerOf};
 ghost use Rattle.checker.specs.Line.{checkerLine};
-use lines_out::put;
-use lines_out::put_decimal;
-use lines_out::put_padded;
-use lines_out::put_refused;
+use line_output::put;
+use line_output::put_decimal;
+use line_output::put_padded;
+use line_output::put_refused;
 use rl_vm::CheckAnswer;
 
 fn fault(out: &mut [u8], number: usize, chunk: usize, offset: usize) -> usize

@@ -33,7 +33,7 @@ use Rattle.numbers.proofs.Ranges.{no-negative}
 use Rattle.numbers.specs.Casts.{truncated, asFloat, castInteger, castTo, castable, castOf}
 use Rattle.definition.specs.Image.{Constant, Chunk, noChunk, Image, chunkAt}
 use Rattle.definition.specs.Lines.{listed, widths, widthOf}
-use Rattle.definition.specs.Loaded.{noConstant, ConstantKept, Kept}
+use Rattle.definition.specs.Loaded.{noConstant, ConstantKept, ImageKept}
 use Rattle.definition.specs.Value.{Head, null, arr}
 use Rattle.definition.specs.Value.{Value as Tree}
 use Rattle.definition.specs.Shape.{shape}
@@ -232,7 +232,7 @@ unfolding arrLen
 length-fits vs l = at-most (length vs) 1025 _ (omega arith) (lit≤ tt)
 
 -- ---- all constants of an image
-module _ (im : Image) (kept : Kept im) where
+module _ (im : Image) (kept : ImageKept im) where
   -- a constant that is there is well formed, and a Function one names a chunk
   abbrev Given : Option Constant → Type 0
   Given none = Unit {0}

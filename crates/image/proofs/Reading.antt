@@ -11,10 +11,10 @@ use lib.Seq.{drop-cons, drop-at, drop-drop, drop-append-le, drop-append-add, len
 use Rattle.definition.specs.Lines.{isEmpty, Split, split, inFront, Line, line, faulty, lineOf, Seen, recordOf, loadImage}
 use Rattle.definition.specs.Lines.{Record as FormatRecord}
 use Rattle.definition.proofs.Judged.{true-not-false, false-not-true, cond-elim, LineBytes, line-bytes, Told, told}
-use Rattle.image_lines.specs.Fields.{readOf, ReadFits}
-use Rattle.image_lines.specs.declared.Read.{Read}
-use Rattle.image_lines.specs.declared.Read.the-variants.{Line as ReadLine, Faulty}
-use Rattle.image_lines.proofs.Digits.{line-here, line-open}
+use Rattle.line_digits.specs.Fields.{readOf, ReadFits}
+use Rattle.line_digits.specs.declared.Read.{Read}
+use Rattle.line_digits.specs.declared.Read.the-variants.{Line as ReadLine, Faulty}
+use Rattle.line_digits.proofs.Digits.{line-here, line-open}
 use Rattle.image_records.specs.Records.{seenOf, says}
 use Rattle.image_records.specs.declared.Reason.{Reason}
 use Rattle.image_records.specs.declared.Reason.the-variants.{TooLong, BadLine, NoEnd, NoSuchChunk, ShortSlice}
@@ -37,7 +37,7 @@ use Rattle.image.specs.Turns.{
   loadOf,
   heldBy,
   partsOf,
-  Roomy,
+  LoadRoomy,
   Sized,
   turnOf,
   BehindState,
@@ -459,13 +459,13 @@ module _
 -- between two lines: m₀ are the slices as they were at first
 pub record Reading (image : List ℕ) (m₀ m : Slices) (s : State) (at k : ℕ) : Type 0 where
   pub here : goes (split (drop at image)) (partsOf s m) k ≡ loadOf image
-  pub roomy : Roomy m
+  pub roomy : LoadRoomy m
   pub sized : Sized s at
   pub within : at ≤ length image
   pub counted : k ≤ at
   pub behind : BehindState s m₀ m
 
-pub reading-start : (image : List ℕ) (m : Slices) → length image ≤ 65536 → Roomy m → Reading image m m none-yet 0 0
+pub reading-start : (image : List ℕ) (m : Slices) → length image ≤ 65536 → LoadRoomy m → Reading image m m none-yet 0 0
 unfolding loadOf
 reading-start image m h r =
     record {
@@ -493,7 +493,7 @@ pub record SameLengths (m m′ : Slices) : Type 0 where
   pub long-payloads : length (m′ .payloads) ≡ length (m .payloads)
   pub long-table : length (m′ .table) ≡ length (m .table)
 
-roomy-kept : (m m′ : Slices) → SameLengths m m′ → Roomy m → Roomy m′
+roomy-kept : (m m′ : Slices) → SameLengths m m′ → LoadRoomy m → LoadRoomy m′
 roomy-kept m m′ l r =
     record {
       room-bytes = rw (l .long-bytes) (r .room-bytes);
@@ -567,7 +567,7 @@ loads-short image m e =
       refused-blank = λ q _. true-not-false (sym e ∙ q);
     }
 
-pub not-short : (m : Slices) → Roomy m → short m ≡ false
+pub not-short : (m : Slices) → LoadRoomy m → short m ≡ false
 not-short m r =
     rw (
       le-ltb (length (m .bytes)) 32768 (r .room-bytes),
@@ -615,7 +615,7 @@ module _ (m : Slices) where
   pub short-table : length (m .table) < 260 → short m ≡ true
   short-table h = short-or first-four (ltb (length (m .table)) 260) (lt-ltb (length (m .table)) 260 h)
 
-pub loads-long : (image : List ℕ) (m : Slices) → Roomy m → 65536 < length image → Loads image m (Refused TooLong 0) m
+pub loads-long : (image : List ℕ) (m : Slices) → LoadRoomy m → 65536 < length image → Loads image m (Refused TooLong 0) m
 unfolding loadIn loadImage
 loads-long image m r h =
     record {
@@ -641,7 +641,7 @@ settled-refused image m m₁ m₂ (Refused r k) l e b =
     record { lines = record { answer = l .answer; left = rw same (blanked-behind m) }; blank = same }
 
 pub loads-whole :
-    (image : List ℕ) (m m′ : Slices) (r : LoadAnswer) → Roomy m → length image ≤ 65536 → loadOf image ≡ encoded (loadImage image) → LoadsSettled image m r m′
+    (image : List ℕ) (m m′ : Slices) (r : LoadAnswer) → LoadRoomy m → length image ≤ 65536 → loadOf image ≡ encoded (loadImage image) → LoadsSettled image m r m′
     → Loads image m r m′
 unfolding loadIn
 loads-whole image m m′ r roomy h e l =

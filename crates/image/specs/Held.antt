@@ -7,7 +7,7 @@ use Prim.Native.Nat.{ℕ, _+_, _*_, _-_, _≤_, _<_}
 use lib.ListN.{length, getD, take, drop}
 use Rattle.definition.specs.Image.{Chunk, Image, chunkAt, textAt}
 use Rattle.definition.specs.Lines.{image, loadImage}
-use Rattle.definition.specs.Loaded.{Kept}
+use Rattle.definition.specs.Loaded.{ImageKept}
 use Rattle.image.specs.Answer.{Slices, kindOf, payloadOf, short}
 use Rattle.image.specs.declared.Counts.{Counts}
 
@@ -47,4 +47,4 @@ pub record Found (bytes : List ℕ) (m m′ : Slices) (n : Counts) : Type 0 wher
   pub long : short m ≡ false
   pub is : loadImage bytes ≡ image found
   pub held : Held m′ n found
-  pub kept : Kept found
+  pub kept : ImageKept found

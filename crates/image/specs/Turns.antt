@@ -101,7 +101,7 @@ abbrev pub partsOf : State → Slices → Parts
 partsOf s m = record { numbers = s; held = heldBy s m }
 
 -- the lengths that the work slices have to have
-pub record Roomy (m : Slices) : Type 0 where
+pub record LoadRoomy (m : Slices) : Type 0 where
   pub room-bytes : 32768 ≤ length (m .bytes)
   pub room-ends : 256 ≤ length (m .ends)
   pub room-kinds : 13107 ≤ length (m .kinds)

@@ -1,16 +1,13 @@
 // Load: the bytes of an image, judged and decoded into lent work slices (document 01, "Image lines" and "Load").
-// `image_lines` has digits and lines, `image_records` what a line says, `image_store` what a line leaves in the work slices.
+// `line_digits` has digits and lines, `image_records` what a line says, `image_store` what a line leaves in the work slices.
 ghost use mathlib.Core.Path.{_≡_};
 ghost use Prim.Native.Nat.{_≤_, _<_};
 ghost use lib.ListN.{length};
 ghost use Rattle.image.specs.Answer.{slices, blanked, Loads};
-ghost use Rattle.image.specs.Turns.{Roomy, Sized, TakesLine, LoadsLines, isRefused, LoadsSettled};
+ghost use Rattle.image.specs.Turns.{LoadRoomy, Sized, TakesLine, LoadsLines, isRefused, LoadsSettled};
 use clearing::clear_u8;
 use clearing::clear_u64;
 use clearing::clear_usize;
-use image_lines::Read;
-use image_lines::line_end;
-use image_lines::read_line;
 use image_records::Part;
 pub use image_records::Reason;
 use image_records::State;
@@ -18,6 +15,9 @@ use image_records::record_of;
 use image_store::Turn;
 use image_store::accept;
 use image_store::finish;
+use line_digits::Read;
+use line_digits::line_end;
+use line_digits::read_line;
 
 // How much of the work slices a loaded image fills: `bytes`, `ends`, `kinds` and `payloads` up to these counts, `table` up to one row
 // of four more than there are chunks.
@@ -46,7 +46,7 @@ fn take_line(
     at: usize,
     k: usize,
 ) -> Turn
-    requires { ⌜ (at < length (now image)) × (length (now image) ≤ 65536) × (k ≤ at) × Roomy (slices (now bytes) (now ends) (now kinds) (now payloads) (now table)) × Sized s at ⌝ }
+    requires { ⌜ (at < length (now image)) × (length (now image) ≤ 65536) × (k ≤ at) × LoadRoomy (slices (now bytes) (now ends) (now kinds) (now payloads) (now table)) × Sized s at ⌝ }
     ensures { λ u. ⌜ TakesLine (now (image .entry)) s at k (slices (now (bytes .entry)) (now (ends .entry)) (now (kinds .entry)) (now (payloads .entry)) (now (table .entry))) u (slices (now (bytes .exit)) (now (ends .exit)) (now (kinds .exit)) (now (payloads .exit)) (now (table .exit))) ⌝ }
 {
     let end = line_end(image, at);
@@ -81,7 +81,7 @@ fn load_lines(
     payloads: &mut [u64],
     table: &mut [usize],
 ) -> LoadAnswer
-    requires { ⌜ (length (now image) ≤ 65536) × Roomy (slices (now bytes) (now ends) (now kinds) (now payloads) (now table)) ⌝ }
+    requires { ⌜ (length (now image) ≤ 65536) × LoadRoomy (slices (now bytes) (now ends) (now kinds) (now payloads) (now table)) ⌝ }
     ensures { λ r. ⌜ LoadsLines (now (image .entry)) (slices (now (bytes .entry)) (now (ends .entry)) (now (kinds .entry)) (now (payloads .entry)) (now (table .entry))) r (slices (now (bytes .exit)) (now (ends .exit)) (now (kinds .exit)) (now (payloads .exit)) (now (table .exit))) ⌝ }
 {
     let mut s = State {
@@ -128,7 +128,7 @@ fn blank(
     payloads: &mut [u64],
     table: &mut [usize],
 )
-    requires { ⌜ Roomy (slices (now bytes) (now ends) (now kinds) (now payloads) (now table)) ⌝ }
+    requires { ⌜ LoadRoomy (slices (now bytes) (now ends) (now kinds) (now payloads) (now table)) ⌝ }
     ensures { λ r. ⌜ slices (now (bytes .exit)) (now (ends .exit)) (now (kinds .exit)) (now (payloads .exit)) (now (table .exit)) ≡ blanked (slices (now (bytes .entry)) (now (ends .entry)) (now (kinds .entry)) (now (payloads .entry)) (now (table .entry))) ⌝ }
 {
     let most_bytes = 32768;
@@ -160,7 +160,7 @@ fn load_roomy(
     payloads: &mut [u64],
     table: &mut [usize],
 ) -> LoadAnswer
-    requires { ⌜ (length (now image) ≤ 65536) × Roomy (slices (now bytes) (now ends) (now kinds) (now payloads) (now table)) ⌝ }
+    requires { ⌜ (length (now image) ≤ 65536) × LoadRoomy (slices (now bytes) (now ends) (now kinds) (now payloads) (now table)) ⌝ }
     ensures { λ r. ⌜ LoadsSettled (now (image .entry)) (slices (now (bytes .entry)) (now (ends .entry)) (now (kinds .entry)) (now (payloads .entry)) (now (table .entry))) r (slices (now (bytes .exit)) (now (ends .exit)) (now (kinds .exit)) (now (payloads .exit)) (now (table .exit))) ⌝ }
 {
     let answer = load_lines(image, bytes, ends, kinds, payloads, table);

@@ -4,7 +4,7 @@ ghost use Rattle.image.specs.Answer.{slices};
 ghost use Rattle.image_bench.specs.Exported.{codeOf, Exported};
 use image::LoadAnswer;
 use image::load;
-use loading::refusal_number;
+use load_answers::refusal_number;
 
 fn code_of(a: LoadAnswer) -> u64
     ensures { λ n. ⌜ n ≡ codeOf a ⌝ }

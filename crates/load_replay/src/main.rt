@@ -11,12 +11,12 @@ use case_list::after;
 use case_list::put;
 use image::LoadAnswer;
 use image::load;
-use image_lines::hex;
-use image_lines::line_end;
 use libc::STDOUT_FILENO;
+use line_digits::hex;
+use line_digits::line_end;
 use list::answer_mark;
 use list::image_end;
-use loading::refusal_number;
+use load_answers::refusal_number;
 use std::num::wrapping_add_u64;
 
 struct Tally {

@@ -30,7 +30,7 @@ pub fn payload_of(a: Number) -> u64
 pub fn number_of_payload(code: u8, w: u64) -> FoundNumber
     ensures { λ r. ⌜ r ≡ numberOfPayload code w ⌝ }
 {
-    match values::number_of(values::value_at(code as u64, w)) {
+    match values::number_in(values::value_at(code as u64, w)) {
         MaybeNumber::Is(n) => FoundNumber::Found(n),
         MaybeNumber::Not => FoundNumber::NoNumber,
     }

@@ -12,12 +12,12 @@ pick false a b = b
 
 -- "outside the kind's range is 37; a zero divisor is 38", "39 a kind the operation does not serve", "anything else is 42" of a cast;
 -- 0, which is no fault's number, for a value
-abbrev pub faultNumber : NumberAnswer → ℕ
-faultNumber (Value n) = 0
-faultNumber Overflow = 37
-faultNumber ZeroDivisor = 38
-faultNumber WrongKind = 39
-faultNumber InvalidCast = 42
+abbrev pub answerNumber : NumberAnswer → ℕ
+answerNumber (Value n) = 0
+answerNumber Overflow = 37
+answerNumber ZeroDivisor = 38
+answerNumber WrongKind = 39
+answerNumber InvalidCast = 42
 
 -- "Ordered comparison: two of the same kind of the ten; a NaN is 40"
 abbrev pub comparisonFault : ComparisonAnswer → ℕ

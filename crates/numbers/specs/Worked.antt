@@ -14,7 +14,7 @@ use Rattle.numbers.specs.declared.IntKind.the-variants.{I64, U64, U8}
 use Rattle.numbers.specs.declared.CastTarget.{CastTarget}
 use Rattle.numbers.specs.declared.CastTarget.the-variants.{ToInteger, ToSFloat}
 use Rattle.numbers.specs.Kinds.{wrapping}
-use Rattle.numbers.specs.Answers.{faultNumber}
+use Rattle.numbers.specs.Answers.{answerNumber}
 use Rattle.numbers.specs.Arithmetic.{addOf, divOf, negateOf, checked, checkedDiv}
 use Rattle.numbers.specs.Casts.{castOf, castInteger}
 
@@ -37,10 +37,10 @@ pub data Outcome : Type 0 where
 
 abbrev pub outcomeOf : NumberAnswer → Outcome
 outcomeOf (Value n) = value n
-outcomeOf Overflow = fault (faultNumber Overflow)
-outcomeOf ZeroDivisor = fault (faultNumber ZeroDivisor)
-outcomeOf WrongKind = fault (faultNumber WrongKind)
-outcomeOf InvalidCast = fault (faultNumber InvalidCast)
+outcomeOf Overflow = fault (answerNumber Overflow)
+outcomeOf ZeroDivisor = fault (answerNumber ZeroDivisor)
+outcomeOf WrongKind = fault (answerNumber WrongKind)
+outcomeOf InvalidCast = fault (answerNumber InvalidCast)
 
 abbrev pub Row : Type 0
 Row = Operation × Outcome

@@ -1,11 +1,11 @@
 // The fault numbers of the answers; 0 where there is a value.
 ghost use mathlib.Core.Path.{_≡_};
-ghost use Rattle.numbers.specs.Answers.{faultNumber, comparisonFault};
+ghost use Rattle.numbers.specs.Answers.{answerNumber, comparisonFault};
 use super::ComparisonAnswer;
 use super::NumberAnswer;
 
 pub fn fault_number(answer: NumberAnswer) -> u8
-    ensures { λ r. ⌜ r ≡ faultNumber answer ⌝ }
+    ensures { λ r. ⌜ r ≡ answerNumber answer ⌝ }
 {
     match answer {
         NumberAnswer::Value(_) => 0,

@@ -2,10 +2,10 @@
 use mathlib.Core.Path.{_≡_}
 use mathlib.Core.List.{List}
 use Prim.Native.Nat.{ℕ}
-use Rattle.vm_check.specs.Work.{CheckWork}
-use Rattle.vm_check.specs.Check.{Checks}
-use Rattle.vm_check.specs.Numbers.{checkNumber, checkLine, checkChunk, checkOffset}
-use Rattle.vm_check.specs.declared.CheckAnswer.{CheckAnswer}
+use Rattle.rl_check.specs.Work.{CheckWork}
+use Rattle.rl_check.specs.Check.{Checks}
+use Rattle.rl_check.specs.Numbers.{checkNumber, checkLine, checkChunk, checkOffset}
+use Rattle.rl_check.specs.declared.CheckAnswer.{CheckAnswer}
 
 -- the four numbers are those of what `check` answers to these bytes in slices of these lengths
 pub record ChecksAs (bytes : List ℕ) (w : CheckWork) (number line chunk offset : ℕ) : Type 0 where

@@ -1,13 +1,13 @@
 // The operations for C and Rust: numbers and slices, of which each is a pointer and length (bindings/c/rl_vm.h). They ask no more of a caller than
 // such slices always do: that each points to as many elements as its length says, and that none overlaps another.
 ghost use Rattle.image.specs.Answer.{slices};
-ghost use Rattle.vm_check.specs.Work.{checkWork, CheckZero};
+ghost use Rattle.rl_check.specs.Work.{checkWork, CheckZero};
 ghost use Rattle.rl_vm.specs.Export.{ChecksAs};
-use vm_check::check;
-use vm_check::chunk_of;
-use vm_check::line_of;
-use vm_check::number_of;
-use vm_check::offset_of;
+use rl_check::check;
+use rl_check::chunk_of;
+use rl_check::line_of;
+use rl_check::number_of;
+use rl_check::offset_of;
 
 // `check`: 0 for a pass, else document 01's number, with its line or its chunk and offset in the last three.
 #[no_mangle]

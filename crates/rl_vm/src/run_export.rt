@@ -1,15 +1,15 @@
 // `run` for C and Rust, in the way of `rl_vm_check`.
 ghost use Rattle.image.specs.Answer.{slices};
-ghost use Rattle.loading.specs.Zero.{LoadZero};
+ghost use Rattle.load_answers.specs.Zero.{LoadZero};
 ghost use Rattle.run_answers.specs.Run.{own, OwnZero};
 ghost use Rattle.rl_vm.specs.RunExport.{RunsAs};
+use rl_run::run;
 use run_answers::run_chunk;
 use run_answers::run_count;
 use run_answers::run_length;
 use run_answers::run_line;
 use run_answers::run_number;
 use run_answers::run_offset;
-use vm_run::run;
 
 // `run`: 0 for a value, else document 01's number. The last five numbers are the count, the length of the coded value, the line of a refusal, and
 // the chunk and offset of a stop.

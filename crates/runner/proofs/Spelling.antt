@@ -14,12 +14,12 @@ use Rattle.image.specs.Answer.{Slices, numberOf, short}
 use Rattle.image_records.specs.declared.Reason as refusal
 use Rattle.vm_acts.specs.Reasons.{reasonNumber}
 use Rattle.vm_acts.specs.declared.StopReason.{StopReason}
-use Rattle.run_answers.specs.Run.{Own, anyShort, runShort, answerOf, Runs, Written}
+use Rattle.run_answers.specs.Run.{Own, anyShort, runShort, answerOf, RunAnswered, Written}
 use Rattle.run_answers.specs.declared.RunAnswer.{RunAnswer}
 use Rattle.run_answers.specs.declared.RunAnswer.the-variants.{Refused, Value, Stop}
-use Rattle.lines_out.specs.Puts.{Puts}
-use Rattle.image_in.specs.Read.{ReadOf}
-use Rattle.image_in.proofs.Parts.{same-load}
+use Rattle.line_output.specs.Puts.{Puts}
+use Rattle.image_input.specs.Read.{ReadOf}
+use Rattle.image_input.proofs.Parts.{same-load}
 use Rattle.runner.specs.Line.{Fits}
 
 module _ {out out′ : List ℕ} {to : ℕ} (a : RunAnswer) (l : List ℕ) where
@@ -51,7 +51,7 @@ written-fits (Value n size) before after w = w .0
 written-fits (Stop reason n c p) before after w = tt
 
 pub spell-asks :
-    {bytes : List ℕ} {budget : ℕ} {m : Slices} {o : Own} {before after : List ℕ} {a : RunAnswer} (out : List ℕ) → Runs bytes budget m o before after a
+    {bytes : List ℕ} {budget : ℕ} {m : Slices} {o : Own} {before after : List ℕ} {a : RunAnswer} (out : List ℕ) → RunAnswered bytes budget m o before after a
     → length after ≡ 4096 → 8224 ≤ length out → (32 + 2 * length after ≤ length out) × (96 ≤ length out) × Fits a (length after)
 spell-asks {before = before} {after = after} {a = a} out r e h = (omega arith, omega arith, written-fits a before after (r .written))
 
@@ -80,7 +80,7 @@ not-short m o b e k p t x c s l n g y w =
     )
 
 pub says :
-    (bytes : List ℕ) {m : Slices} {o : Own} {a : RunAnswer} {before after out out′ : List ℕ} {to : ℕ} → Runs bytes 1000000 m o before after a
+    (bytes : List ℕ) {m : Slices} {o : Own} {a : RunAnswer} {before after out out′ : List ℕ} {to : ℕ} → RunAnswered bytes 1000000 m o before after a
     → length (m .bytes) ≡ 32768 → length (m .ends) ≡ 256 → length (m .kinds) ≡ 13107 → length (m .payloads) ≡ 13107
     → length (m .table) ≡ 260 → length (o .texts) ≡ 257 → length (o .classes) ≡ 65 → length (o .stack) ≡ 512 → length (o .locals) ≡ 2048
     → length (o .starts) ≡ 256 → length (o .globals) ≡ 512 → length (o .cells) ≡ 8192 → length (o .memo) ≡ 4096

@@ -4,14 +4,14 @@ ghost use mathlib.Core.List.{[], _∷_};
 ghost use Prim.Native.Nat.{_+_, _*_, _≤_};
 ghost use lib.ListN.{length};
 ghost use Rattle.definition.specs.Runner.{ascii, decimal, padded, hex, words, answerLine};
-ghost use Rattle.lines_out.specs.Puts.{Puts};
+ghost use Rattle.line_output.specs.Puts.{Puts};
 ghost use Rattle.run_answers.specs.Run.{answerOf};
 ghost use Rattle.runner.specs.Line.{Fits};
-use lines_out::put;
-use lines_out::put_decimal;
-use lines_out::put_hex;
-use lines_out::put_padded;
-use lines_out::put_refused;
+use line_output::put;
+use line_output::put_decimal;
+use line_output::put_hex;
+use line_output::put_padded;
+use line_output::put_refused;
 use rl_vm::RunAnswer;
 
 fn value(out: &mut [u8], count: usize, result: &[u8]) -> usize

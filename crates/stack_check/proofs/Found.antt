@@ -5,7 +5,7 @@ use native.Mathlib.Omega.{arith}
 use lib.ListN.{length}
 use Rattle.definition.specs.Image.{Chunk}
 use Rattle.definition.specs.Decode as definition
-use Rattle.chunk.specs.Fault.{faultNumber, numberOf, Inspects}
+use Rattle.chunk.specs.Fault.{staticNumber, numberOf, Inspects}
 use Rattle.chunk.specs.declared.Instr.{Instr}
 use Rattle.chunk.specs.declared.StaticFault.{StaticFault}
 use Rattle.chunk.specs.declared.StaticFault.the-variants as fault
@@ -28,7 +28,7 @@ module _ {c : Chunk} {p : ℕ} {i : Instr} (H : Here c p i) where
       N p (x .instr) (x .is) ∙ ap (nodeOf p) (sym (x .decoded))
 
 -- the answers of `inspect`
-some-number : (f : StaticFault) → faultNumber f ≡ 0 → ⊥
+some-number : (f : StaticFault) → staticNumber f ≡ 0 → ⊥
 some-number fault.Instruction e = omega arith
 some-number fault.Loop e = omega arith
 some-number fault.Constant e = omega arith
@@ -37,7 +37,7 @@ module _ {c : Chunk} {p : ℕ} {r : Inspected} (I : Inspects c p r) where
   pub is-faulty : {f : StaticFault} → r ≡ Fault f → definition.fault c p ≡ 0 → ⊥
   is-faulty {f} e z = some-number f (sym (ap numberOf e) ∙ I .number ∙ z)
 
-  pub fault-number : {f : StaticFault} → r ≡ Fault f → faultNumber f ≡ definition.fault c p
+  pub fault-number : {f : StaticFault} → r ≡ Fault f → staticNumber f ≡ definition.fault c p
   fault-number e = sym (ap numberOf e) ∙ I .number
 
   pub is-clean : {i : Instr} → r ≡ Sound i → definition.fault c p ≡ 0

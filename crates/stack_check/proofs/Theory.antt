@@ -14,7 +14,7 @@ use Rattle.definition.specs.Decode.{fault}
 use Rattle.stack_check.specs.Node.{nodeAt}
 use Rattle.stack_check.proofs.Nodes.{one-more, changeable, opens-small}
 use Rattle.stack_check.specs.Flat.{Goes, Reach, Assigned, Fit, Obeys, Lowest, NoFault, heightAfter, depthAfter, Changeable}
-use Rattle.stack_check.specs.Progress.{zeros, zero-at, Arrived, HandledAt, Listed, Forced, Progress, Kept, Coming, Visited, Spread, Handling}
+use Rattle.stack_check.specs.Progress.{zeros, zero-at, Arrived, HandledAt, Listed, Forced, Progress, SearchKept, Coming, Visited, Spread, Handling}
 use Rattle.stack_check.specs.declared.Search.{Search}
 use Rattle.stack_check.specs.declared.Node.{Node}
 
@@ -58,8 +58,8 @@ broken s = record { head = s .head; tail = s .tail; low = s .low; bad = 1 }
 abbrev pub pushed : Search → Search
 pushed s = record { head = s .head; tail = s .tail + 1; low = s .low; bad = s .bad }
 
-module _ {hs ds ts hs′ ds′ ts′ : List ℕ} {s s′ : Search} (K : Kept hs ds ts hs′ ds′ ts′ s s′) where
-  pub kept-trans : {hs″ ds″ ts″ : List ℕ} {s″ : Search} → Kept hs′ ds′ ts′ hs″ ds″ ts″ s′ s″ → Kept hs ds ts hs″ ds″ ts″ s s″
+module _ {hs ds ts hs′ ds′ ts′ : List ℕ} {s s′ : Search} (K : SearchKept hs ds ts hs′ ds′ ts′ s s′) where
+  pub kept-trans : {hs″ ds″ ts″ : List ℕ} {s″ : Search} → SearchKept hs′ ds′ ts′ hs″ ds″ ts″ s′ s″ → SearchKept hs ds ts hs″ ds″ ts″ s s″
   kept-trans L =
       record {
         heights = λ o l. L .heights o (rw (K .heights o l) l) ∙ K .heights o l;
@@ -85,7 +85,7 @@ module _ {hs ds ts hs′ ds′ ts′ : List ℕ} {s s′ : Search} (K : Kept hs 
       rw (K .heights o l, K .depths o l)
       (record { fit = λ b. x .fit (K .worse b); goes = λ t g. arrived-kept (x .goes t g) })
 
-pub kept-refl : (hs ds ts : List ℕ) (s : Search) → Kept hs ds ts hs ds ts s s
+pub kept-refl : (hs ds ts : List ℕ) (s : Search) → SearchKept hs ds ts hs ds ts s s
 kept-refl hs ds ts s =
     record {
       heights = λ o l. refl;
@@ -97,7 +97,7 @@ kept-refl hs ds ts s =
       low = refl;
     }
 
-pub kept-broken : (hs ds ts : List ℕ) (s : Search) → Kept hs ds ts hs ds ts s (broken s)
+pub kept-broken : (hs ds ts : List ℕ) (s : Search) → SearchKept hs ds ts hs ds ts s (broken s)
 kept-broken hs ds ts s =
     record {
       heights = λ o l. refl;
@@ -189,7 +189,7 @@ module _ {c : Chunk} {hs ds ts : List ℕ} {s : Search} (P : Progress c hs ds ts
     in-heights : t < length hs
     in-heights = omega (arith, P .long-heights)
 
-    kept-new : Kept hs ds ts (set hs t (h + 1)) (set ds t d) (set ts (s .tail) t) s (pushed s)
+    kept-new : SearchKept hs ds ts (set hs t (h + 1)) (set ds t d) (set ts (s .tail) t) s (pushed s)
     kept-new =
         record {
           heights = λ o l. getD-set-other hs t o (h + 1) 0 (other o l);

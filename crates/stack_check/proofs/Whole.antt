@@ -11,7 +11,7 @@ use Rattle.definition.specs.StackCheck.{ChunkPasses, Passes}
 use Rattle.definition.specs.CheckAnswer.{Answers, Wrong}
 use Rattle.definition.proofs.OneAnswer.{settled}
 use Rattle.stack_check.specs.Node.{chunkOf}
-use Rattle.stack_check.specs.Answer.{reasonNumber, checkedOf, ChunkIs, Roomy, RowLent, RowDecided, Lent, Decided, PassBelow}
+use Rattle.stack_check.specs.Answer.{reasonNumber, checkedOf, ChunkIs, CheckRoomy, RowLent, RowDecided, Lent, Decided, PassBelow}
 use Rattle.stack_check.specs.declared.Reason.{Reason}
 use Rattle.stack_check.specs.declared.ChunkAnswer.{ChunkAnswer}
 use Rattle.stack_check.specs.declared.ChunkAnswer.the-variants as one
@@ -20,7 +20,7 @@ use Rattle.stack_check.proofs.Nodes.{kinds-back}
 use Rattle.stack_check.proofs.Alike.{answer-alike}
 use Rattle.clearing.proofs.Orders.{below-next}
 
-pub roomy-cut : {code hs ds ts : List ℕ} (k : Chunk) → code ≡ k .code → Roomy (length (k .code)) hs ds ts → Roomy (length code) hs ds ts
+pub roomy-cut : {code hs ds ts : List ℕ} (k : Chunk) → code ≡ k .code → CheckRoomy (length (k .code)) hs ds ts → CheckRoomy (length code) hs ds ts
 roomy-cut k e R = record { heights = rw e (R .heights); depths = R .depths; todo = R .todo }
 
 -- the answer for the search's chunk, for each chunk with its code and constants of its kinds

@@ -37,7 +37,7 @@ abbrev pub ChunkDecided : List ℕ → List ℕ → ChunkAnswer → Type 0
 ChunkDecided code kinds r = (k : Chunk) → k .code ≡ code → kindsOf (k .constants) ≡ kinds → ChunkIs k r
 
 -- the work slices are long enough for a code
-pub record Roomy (size : ℕ) (hs ds ts : List ℕ) : Type 0 where
+pub record CheckRoomy (size : ℕ) (hs ds ts : List ℕ) : Type 0 where
   pub heights : size ≤ length hs
   pub depths : length hs ≤ length ds
   pub todo : length hs ≤ length ts
@@ -57,7 +57,7 @@ pub record ChunkHeld (bytes kinds table : List ℕ) (c : ℕ) (k : Chunk) : Type
 
 -- some chunk lies at row c, and the work slices are long enough for it
 abbrev pub RowLent : List ℕ → List ℕ → List ℕ → ℕ → List ℕ → List ℕ → List ℕ → Type 0
-RowLent bytes kinds table c hs ds ts = (k : Chunk) × ChunkHeld bytes kinds table c k × Roomy (length (k .code)) hs ds ts
+RowLent bytes kinds table c hs ds ts = (k : Chunk) × ChunkHeld bytes kinds table c k × CheckRoomy (length (k .code)) hs ds ts
 
 -- the answer for every chunk that lies at row c
 abbrev pub RowDecided : List ℕ → List ℕ → List ℕ → ℕ → ChunkAnswer → Type 0

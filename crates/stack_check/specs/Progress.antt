@@ -66,7 +66,7 @@ pub record Progress (c : Chunk) (hs ds ts : List ℕ) (s : Search) : Type 0 wher
   pub found : s .low < length (c .code) → Reach c (s .low) × (fault c (s .low) ≡ 0 → ⊥)
 
 -- what a visit keeps
-pub record Kept (hs ds ts hs′ ds′ ts′ : List ℕ) (s s′ : Search) : Type 0 where
+pub record SearchKept (hs ds ts hs′ ds′ ts′ : List ℕ) (s s′ : Search) : Type 0 where
   pub heights : (o : ℕ) → 0 < getD hs o 0 → getD hs′ o 0 ≡ getD hs o 0
   pub depths : (o : ℕ) → 0 < getD hs o 0 → getD ds′ o 0 ≡ getD ds o 0
   pub todo : (j : ℕ) → j < s .tail → getD ts′ j 0 ≡ getD ts j 0
@@ -85,19 +85,19 @@ pub record Coming (c : Chunk) (tail t h d : ℕ) : Type 0 where
 -- what a visit of t leaves
 pub record Visited (c : Chunk) (hs ds ts hs′ ds′ ts′ : List ℕ) (s s′ : Search) (t h d : ℕ) : Type 0 where
   pub progress : Progress c hs′ ds′ ts′ s′
-  pub kept : Kept hs ds ts hs′ ds′ ts′ s s′
+  pub kept : SearchKept hs ds ts hs′ ds′ ts′ s s′
   pub arrived : Arrived c hs′ ds′ (s′ .bad) t h d
 
 -- what the visits of all that come after an instruction leave
 pub record Spread (c : Chunk) (hs ds ts hs′ ds′ ts′ : List ℕ) (s s′ : Search) (n : Node) (h d : ℕ) : Type 0 where
   pub progress : Progress c hs′ ds′ ts′ s′
-  pub kept : Kept hs ds ts hs′ ds′ ts′ s s′
+  pub kept : SearchKept hs ds ts hs′ ds′ ts′ s s′
   pub arrived : (t : ℕ) → Goes n t → Arrived c hs′ ds′ (s′ .bad) t h d
 
 -- what handling the instruction at o, which has no fault, leaves
 pub record Handling (c : Chunk) (hs ds ts hs′ ds′ ts′ : List ℕ) (s s′ : Search) (o : ℕ) : Type 0 where
   pub progress : Progress c hs′ ds′ ts′ s′
-  pub kept : Kept hs ds ts hs′ ds′ ts′ s s′
+  pub kept : SearchKept hs ds ts hs′ ds′ ts′ s s′
   pub handled : HandledAt c hs′ ds′ (s′ .bad) o
 
 -- the answer of a test: 0 where the instruction is not fit

@@ -4,11 +4,11 @@ ghost use mathlib.Core.List.{List};
 ghost use Prim.Native.Nat.{ℕ, _+_, _-_, _*_, _^_, _<_, _≤_};
 ghost use lib.ListN.{length, getD};
 ghost use Rattle.definition.specs.Decode.{fault};
-ghost use Rattle.chunk.specs.Fault.{faultNumber};
+ghost use Rattle.chunk.specs.Fault.{staticNumber};
 ghost use Rattle.stack_check.specs.Node.{turnOf, firstOf, secondOf, Drawn, NodeIs, Here, chunkOf};
 ghost use Rattle.stack_check.specs.Flat.{Goes, Changeable, heightAfter};
 ghost use Rattle.stack_check.specs.Progress.{Progress, Coming, Visited, Spread, Handling, Tested, Listed};
-ghost use Rattle.stack_check.specs.Answer.{reasonNumber, ChunkIs, ChunkDecided, RowLent, RowDecided, Roomy, Lent, Decided};
+ghost use Rattle.stack_check.specs.Answer.{reasonNumber, ChunkIs, ChunkDecided, RowLent, RowDecided, CheckRoomy, Lent, Decided};
 ghost use Rattle.clearing.specs.Zero.{AllZero};
 use chunk::BackJump;
 use chunk::CodeCursor;
@@ -342,7 +342,7 @@ fn step(
 }
 
 fn reason_of(f: StaticFault) -> Reason
-    ensures { λ r. ⌜ reasonNumber r ≡ faultNumber f ⌝ }
+    ensures { λ r. ⌜ reasonNumber r ≡ staticNumber f ⌝ }
 {
     match f {
         StaticFault::Instruction => Reason::Instruction,
@@ -370,7 +370,7 @@ fn judge(
     depths: &mut [usize],
     todo: &mut [usize],
 ) -> ChunkAnswer
-    requires { ⌜ Roomy (length (now code)) (now heights) (now depths) (now todo) ⌝ }
+    requires { ⌜ CheckRoomy (length (now code)) (now heights) (now depths) (now todo) ⌝ }
     ensures { λ r. ⌜ ChunkIs (chunkOf (now (code .entry)) (now (kinds .entry))) r ⌝ }
 {
     let n = code.len();
@@ -409,7 +409,7 @@ pub fn check_chunk(
     depths: &mut [usize],
     todo: &mut [usize],
 ) -> ChunkAnswer
-    requires { ⌜ Roomy (length (now code)) (now heights) (now depths) (now todo) ⌝ }
+    requires { ⌜ CheckRoomy (length (now code)) (now heights) (now depths) (now todo) ⌝ }
     ensures answer { λ r. ⌜ ChunkDecided (now (code .entry)) (now (kinds .entry)) r ⌝ }
     ensures cleared { λ r. ⌜ AllZero (now (heights .exit)) × AllZero (now (depths .exit)) × AllZero (now (todo .exit)) ⌝ }
 {

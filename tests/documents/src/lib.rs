@@ -131,7 +131,7 @@ mod tests {
     use super::*;
 
     fn found(text: &str) -> Vec<Vec<String>> {
-        let crates = ["image".to_string(), "vm_run".to_string()];
+        let crates = ["image".to_string(), "rl_run".to_string()];
         let named = paths(text, "docs/", &crates);
         named.into_iter().map(|named| named.places).collect()
     }

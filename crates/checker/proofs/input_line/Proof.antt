@@ -1,7 +1,7 @@
 -- The line of what was read is that of the whole input.
 use mathlib.Core.Path.{sym}
 use lib.Seq.{length-take-le}
-use Rattle.lines_out.proofs.Pieces.{inside}
+use Rattle.line_output.proofs.Pieces.{inside}
 use Rattle.checker.proofs.Spelling.{of-input}
 use borrow.Author.Needs.{needs}
 use Rattle.checker.proofs.input_line.Statement.{statement}

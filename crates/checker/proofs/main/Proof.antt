@@ -1,5 +1,5 @@
 -- What was read lies in the buffer, which is longer than an image may be.
-use Rattle.image_in.proofs.Parts.{bytes-within}
+use Rattle.image_input.proofs.Parts.{bytes-within}
 use borrow.Author.Needs.{needs}
 use Rattle.checker.proofs.main.Statement.{statement}
 use Rattle.checker.proofs.main.Tie as tie

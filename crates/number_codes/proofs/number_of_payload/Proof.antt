@@ -19,8 +19,8 @@ at code w e f g = ap (λ (n : MaybeNumber). found (numberIn n)) (sym g) ∙ ap f
 value-at-requires : tie.Need-value-at-requires
 value-at-requires c κs = search needs
 
-number-of-requires : tie.Need-number-of-requires
-number-of-requires c κs = search needs
+number-in-requires : tie.Need-number-in-requires
+number-in-requires c κs = search needs
 
 enum-known-n : tie.Need-enum-known-n
 enum-known-n c = search needs
@@ -30,17 +30,17 @@ enum-told c = search needs
 
 returns : tie.Need-returns
 returns c =
-    let number-of = c .before .before .before .number-of in
+    let number-in = c .before .before .before .number-in in
     let value-at = c .before .before .before .before .value-at in
     let args = c .before .before .before .before .before .args in
-    at (args .code) (args .w) (value-at .ensures .0) (number-of .ensures) (c .before .n .given .1)
+    at (args .code) (args .w) (value-at .ensures .0) (number-in .ensures) (c .before .n .given .1)
 
 returns-2 : tie.Need-returns-2
 returns-2 c =
-    let number-of = c .before .before .number-of in
+    let number-in = c .before .before .number-in in
     let value-at = c .before .before .before .value-at in
     let args = c .before .before .before .before .args in
-    at (args .code) (args .w) (value-at .ensures .0) (number-of .ensures) (c .enum-told .given .1)
+    at (args .code) (args .w) (value-at .ensures .0) (number-in .ensures) (c .enum-told .given .1)
 
 pub number-of-payload-spec : {M : Type 1} → statement M
-number-of-payload-spec = tie.close (tie.spec value-at-requires number-of-requires enum-known-n enum-told returns returns-2)
+number-of-payload-spec = tie.close (tie.spec value-at-requires number-in-requires enum-known-n enum-told returns returns-2)

@@ -2,7 +2,7 @@
 use borrow.Author.Needs.{needs}
 use Rattle.checker.proofs.lines.fault.Statement.{statement}
 use Rattle.checker.proofs.lines.fault.Tie as tie
-use Rattle.lines_out.proofs.Pieces.{then}
+use Rattle.line_output.proofs.Pieces.{then}
 
 slice-aggregate-put : tie.Need-slice-aggregate-put
 slice-aggregate-put c = search needs

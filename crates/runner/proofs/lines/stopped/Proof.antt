@@ -3,7 +3,7 @@
 use borrow.Author.Needs.{needs}
 use Rattle.runner.proofs.lines.stopped.Statement.{statement}
 use Rattle.runner.proofs.lines.stopped.Tie as tie
-use Rattle.lines_out.proofs.Pieces.{then}
+use Rattle.line_output.proofs.Pieces.{then}
 use native.Mathlib.Omega.{arith}
 use mathlib.Core.Path.{_∙_}
 

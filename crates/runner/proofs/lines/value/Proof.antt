@@ -3,7 +3,7 @@
 use borrow.Author.Needs.{needs}
 use Rattle.runner.proofs.lines.value.Statement.{statement}
 use Rattle.runner.proofs.lines.value.Tie as tie
-use Rattle.lines_out.proofs.Pieces.{then, hex-length}
+use Rattle.line_output.proofs.Pieces.{then, hex-length}
 use native.Mathlib.Omega.{arith}
 
 slice-aggregate-put : tie.Need-slice-aggregate-put
