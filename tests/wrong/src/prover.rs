@@ -126,8 +126,10 @@ pub fn about_form(error: &str) -> bool {
 /// length for another reason, as a slice that is lent elsewhere does. The other parts stay as they are.
 pub fn about_parts(error: &str) -> bool {
     let said = in_one_line(error);
-    let of_the_whole = said.contains("-spec`: ") || said.contains(": error: `same-length");
-    of_the_whole || said.contains("` has no `Need-")
+    let put_together = said.split_once("-spec`: expected type `");
+    let expected = put_together.and_then(|(_, rest)| rest.split([' ', '`']).next());
+    let other_part = expected.is_some_and(|part| part.contains(".Need-"));
+    other_part || said.contains("` has no `Need-") || said.contains(": error: `same-length")
 }
 
 /// A long message is broken at any space.
@@ -187,6 +189,8 @@ mod tests {
         let fewer = "low/Proof.antt:9:1: error: `add`: `tie.Need-add`: module `m.low.Tie`\n  has no `Need-add` that can be named";
         let form = "low/Proof.antt:9:1: error: `add`: `c` has no `if1`";
         let length = "low/Proof.antt:9:1: error: `same-length-2`: the two types differ";
+        let given = "low/Proof.antt:9:1: error: `low-spec`: the two types differ where one has `2`\n  expected type `Inv-loop`";
+        assert!(!about_parts(given) && !about_form(given));
         assert!(about_parts(more) && about_parts(fewer) && about_parts(length));
         assert!(!about_parts(form) && !about_parts(&length.replace("same-length-2", "returns")));
         assert!(!about_form(more) && !about_form(fewer) && about_form(form));
