@@ -78,6 +78,12 @@ impl Edit {
         if proof.is_some() && changes.iter().all(|change| change.control.is_none()) {
             return Err("it has a proof, and no control that is proved by it".to_string());
         }
+        if proof
+            .as_ref()
+            .is_some_and(|proof| !proof.is_of_a_function())
+        {
+            return Err("what it brings is no function's proof".to_string());
+        }
         Ok(Edit {
             name: name.to_string(),
             of,
@@ -120,6 +126,11 @@ impl Edit {
 }
 
 impl Proof {
+    /// A shared file of proofs or a definition would change other functions too.
+    fn is_of_a_function(&self) -> bool {
+        self.file.starts_with("proofs/") && self.file.ends_with("/Proof.antt")
+    }
+
     /// An edit's text up to the line `proof:`, and the proof that is all behind it.
     fn behind(text: &str) -> (&str, Option<Proof>) {
         let Some((edit, rest)) = text.split_once("\nproof: ") else {
@@ -237,6 +248,8 @@ mod tests {
         let proof = "proof: proofs/f/Proof.antt\n-- Why.\nold: no line of the edit\n";
         assert!(Edit::parse("e", &format!("{EDIT}{proof}")).is_err());
         let text = format!("{EDIT}control:     a + 1 + 0\n{proof}");
+        assert!(Edit::parse("e", &text.replace("proofs/f/Proof", "specs/A")).is_err());
+        assert!(Edit::parse("e", &text.replace("proofs/f/Proof", "proofs/Laws")).is_err());
         let edit = Edit::parse("e", &text).unwrap();
         for edit in [edit.control().unwrap(), edit] {
             let mut files = files("fn f(a: u8) -> u8\n{\n    a + 1\n}\n");
