@@ -17,6 +17,7 @@ pub mod OneAnswer
 pub mod TestedHeights
 pub mod Witnesses
 pub mod Equality
+pub mod Simulation
 pub mod SimulatedValues
 pub mod SimulatedRuns
 pub mod Judged

@@ -1,6 +1,5 @@
 -- The count stays within the budget, and 46 is met only where it is the budget.
-use mathlib.Core.Path.{_≡_, refl, sym, _∙_, ap, subst, subst⁻¹}
-use mathlib.Core.Logic.{_≢_}
+use mathlib.Core.Path.{_≡_, refl, sym, subst, subst⁻¹}
 use mathlib.Core.List.{List, [], _∷_}
 use mathlib.Core.Option.{Option, none, some}
 use mathlib.Core.Bool.{Bool, true, false, not}
@@ -9,10 +8,10 @@ use native.Mathlib.Omega.{arith}
 use lib.Dec.{T, ltb, ltb→lt, nltb→le}
 use lib.ListN.{length}
 use Rattle.definition.specs.Image.{Image, chunkAt}
-use Rattle.definition.specs.Decode.{Instr, decode}
+use Rattle.definition.specs.Decode.{Instr}
 use Rattle.definition.specs.Shape.{Alg}
 use Rattle.definition.specs.State.{Frame, State, Ending, value, stop, Outcome, next, done, Act, goOn, fault, enter, leave}
-use Rattle.definition.specs.Step.{perform, fits, bounded, left, finishCall, carry, begin, budgeted, within, stepIn, step}
+use Rattle.definition.specs.Step.{bounded, finishCall, carry, begin, budgeted, within, stepIn, step}
 use Rattle.definition.specs.Run.{Run, IsRun, at}
 use Rattle.definition.specs.Claims.{WithinBudget, Counts}
 use Rattle.definition.proofs.Frames.{Form, form}

@@ -2,9 +2,9 @@
 use mathlib.Core.Path.{_≡_, refl, sym, _∙_, ap, subst, subst⁻¹}
 use mathlib.Core.Logic.{_⊎_, inl, inr}
 use mathlib.Core.List.{List, [], _∷_}
-use mathlib.Core.Option.{Option, none, some, Option·some-injective}
+use mathlib.Core.Option.{none, some, Option·some-injective}
 use mathlib.Core.Bool.{Bool, true, false}
-use Prim.Native.Nat.{ℕ, zero, suc, _+_, _≤_, _<_}
+use Prim.Native.Nat.{ℕ, zero, suc, _+_, _<_}
 use native.Mathlib.Omega.{arith}
 use native.Mathlib.Nat.{not-suc-le-zero, le-of-suc-le-suc}
 use lib.Dec.{eqb, lit<}
@@ -37,8 +37,8 @@ use Rattle.definition.specs.Lines.{
 use Rattle.definition.specs.Table.{opCodes, Jump}
 use Rattle.definition.specs.Constants.{constantHead, constantAt, functionAt, strAt}
 use Rattle.definition.specs.Decode.{Instr, word, decode, targetAt, fault}
-use Rattle.definition.specs.StackCheck.{After, Reach, first, after, Sound, Heights, ChunkPasses, Passes}
-use Rattle.definition.specs.CheckAnswer.{pass, fails, Wrong, faulty, noHeights, Answers, passes, refuses}
+use Rattle.definition.specs.StackCheck.{After, Reach, first, after, Heights, ChunkPasses, Passes}
+use Rattle.definition.specs.CheckAnswer.{fails, Wrong, faulty, noHeights, Answers, passes, refuses}
 use Rattle.definition.specs.Step.{
   ifElse,
   orFault,
@@ -66,8 +66,8 @@ use Rattle.definition.specs.Step.{
 }
 use Rattle.definition.specs.Value.{nest, nestOver, nests}
 use Rattle.definition.specs.Trees.{trees}
-use Rattle.definition.specs.Run.{Run, initial, at, trace, runFrames, run}
-use Rattle.definition.specs.Callers.{CallReturned, depth, Kept}
+use Rattle.definition.specs.Run.{initial, at, trace, runFrames, run}
+use Rattle.definition.specs.Callers.{CallReturned, depth}
 use Rattle.definition.specs.Claims.{ReturnedBy, byPropagate}
 use Rattle.definition.specs.Witnesses.{calls, callsText, unknown, backward, missing, bare, second, Witnessed}
 use Rattle.definition.proofs.TestedHeights as tested

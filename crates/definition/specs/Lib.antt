@@ -26,7 +26,6 @@ pub mod Answers
 pub mod Runner
 pub mod KeptValues
 pub mod Endings
-pub mod Simulation
 pub mod Examples
 pub mod Witnesses
 pub mod Proved

@@ -5,7 +5,7 @@ use mathlib.Core.Path.{_≡_}
 use Prim.Native.Nat.{ℕ}
 use Prim.Native.String.{String}
 use Rattle.definition.specs.Image.{Constant, Chunk, Image}
-use Rattle.definition.specs.Lines.{Load, image, loadImage}
+use Rattle.definition.specs.Lines.{image, loadImage}
 use Rattle.definition.specs.Runner.{ascii}
 use Rattle.definition.specs.Trees.{trees}
 use Rattle.definition.specs.Run.{run, at}

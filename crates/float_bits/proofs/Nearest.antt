@@ -1,46 +1,24 @@
--- The bits that `nearestWord` makes are those of the f32 nearest to the f64: by the exponent's field of the f64, a normal result, a subnormal one, zero, or an infinity.
+-- The bits of the f32 nearest to an f64: by the exponent's field of the f64, those of a normal number, of a subnormal one, zero's, or an infinity's.
 -- Assumes nothing.
 use mathlib.Core.Path.{_≡_, refl, sym, ap, _∙_, subst}
 use mathlib.Core.Logic.{_⊎_, inl, inr}
 use mathlib.Core.Bool.{Bool, true, false, not, cond}
 use Prim.Native.Nat.{ℕ, zero, suc, _+_, _-_, _*_, _/_, _%_, _^_, _<_, _≤_, compare}
 use native.Mathlib.Omega.{arith}
-use native.Mathlib.Nat.{
-  mul-pos,
-  zero-add,
-  le-antisymm,
-  le-trans,
-  le-of-eq,
-  lt-of-le-of-lt,
-  lt-of-lt-of-le,
-  lt-of-not-le,
-  lt-irrefl,
-  mul-assoc,
-  mul-one,
-  one-mul,
-  mul-comm,
-  mul-le-mul-right,
-  mul-le-mul-left,
-  mul-div-cancel,
-  le-div-iff-mul-le,
-  div-one,
-  add-assoc,
-  zero-mul,
-  le-of-mul-le-mul-right,
-}
-use lib.Dec.{T, leb, ltb, eqb, ltb→lt, nltb→le, leb→le, nleb→lt, lit≤, lit<}
+use native.Mathlib.Nat.{mul-pos, zero-add, le-antisymm, le-trans, le-of-eq, lt-of-le-of-lt, lt-of-lt-of-le, lt-of-not-le, lt-irrefl, mul-assoc, mul-one, mul-comm, mul-le-mul-right, mul-le-mul-left, mul-div-cancel, le-div-iff-mul-le, div-one, add-assoc, le-of-mul-le-mul-right}
+use lib.Dec.{T, ltb, eqb, ltb→lt, nltb→le, lit≤, lit<}
 use mir.Facts.{no-eqb}
 use lib.Arith.{le→nltb}
+use borrow.Author.Tests.{le-leb, lt-leb}
 use lib.Pow.{pow-add, pow-pos, pow-mono, pow-lt, shl-lt, shr-lt}
-use lib.IntN.{ℤ, pos}
-use lib.Ieee.{Float, nan, inf, fin, Format, binary32, binary64, up, down, size, odd, units, round, fits, ofFields, ofBits, toBits, isNan}
-use lib.Ieee.Digits.{size-lt, size-le, size-reaches}
+use lib.Ieee.{Float, nan, inf, fin, binary32, binary64, up, down, size, odd, units, round, fits, ofFields, ofBits, toBits}
+use lib.Ieee.Digits.{size-lt, size-le}
 use lib.Ieee.Fits.{round-is, round-fits, down-pos, nearest-le}
-use lib.Ieee.Bits.{ofBits-toBits, ofBits-fits, toBits-lt, cond-no, is-false, is-true}
+use lib.Ieee.Bits.{ofBits-toBits, cond-no}
 use lib.Ieee.Exact.{HasValue, odd-sign, units-val}
 use lib.Ieee.Nearest.{closest, closest-same, div-same, nearest-ge}
 use lib.Ieee.Scale.{round-same}
-use Rattle.float_bits.specs.Nearest.{nearestBinary32, nearestMagnitude, nearestWord}
+use Rattle.float_bits.specs.Nearest.{nearestBinary32}
 use Rattle.float_bits.proofs.Round.{closest-zero}
 
 -- ---- a fraction that a value equals, rounded to binary32
@@ -352,48 +330,55 @@ at-top s (suc x) d D a b z = go (ltb (suc x) 2047) (ltb→lt (suc x) 2047) (nltb
         let e : suc x ≡ 2047 = only b (n tt) in
         ap (λ (k : ℕ). nearestBinary32 (ofFields binary64 s k d)) e ∙ ap (λ (k : ℕ). nearestBinary32 (ofFields binary64 s 2047 k)) (z e) ∙ inf-of s ∙ inf-bits s
 
--- ---- by the bits of the magnitude
-module _ (s : Bool) (m : ℕ) (fit : m < 2 ^ 63) where
-  chosen : NearestIs s (m / 2 ^ 52) (m % 2 ^ 52) (nearestMagnitude m)
-  unfolding nearestMagnitude NearestIs
-  chosen =
-      go (ltb 0x7ff0_0000_0000_0000 m) (leb 1151 (m / 2 ^ 52)) (leb 897 (m / 2 ^ 52)) (leb 872 (m / 2 ^ 52))
-      (ltb→lt 0x7ff0_0000_0000_0000 m) (nltb→le 0x7ff0_0000_0000_0000 m)
-      (leb→le 1151 (m / 2 ^ 52)) (nleb→lt 1151 (m / 2 ^ 52))
-      (leb→le 897 (m / 2 ^ 52)) (nleb→lt 897 (m / 2 ^ 52))
-      (leb→le 872 (m / 2 ^ 52)) (nleb→lt 872 (m / 2 ^ 52))
-    where
-      D : m % 2 ^ 52 < 2 ^ 52
-      D = omega arith
+-- ---- by the bits m of the magnitude, whichever the sign s
+fields : (s : Bool) (m : ℕ) → m < 2 ^ 63 → ofBits binary64 (cond s (2 ^ 63) 0 + m) ≡ ofFields binary64 s (m / 2 ^ 52) (m % 2 ^ 52)
+unfolding ofBits
+fields true m fit =
+    let e : (2 ^ 63 + m) % 2 ^ 63 / 2 ^ 52 ≡ m / 2 ^ 52 = omega arith in
+    let d : (2 ^ 63 + m) % 2 ^ 52 ≡ m % 2 ^ 52 = omega arith in
+    let h : 2 ^ 63 ≤ 2 ^ 63 + m = omega arith in
+    ap (λ (b : Bool). ofFields binary64 b ((2 ^ 63 + m) % 2 ^ 63 / 2 ^ 52) ((2 ^ 63 + m) % 2 ^ 52)) (le-leb _ _ h)
+    ∙ ap (λ (k : ℕ). ofFields binary64 true k ((2 ^ 63 + m) % 2 ^ 52)) e
+    ∙ ap (λ (k : ℕ). ofFields binary64 true (m / 2 ^ 52) k) d
+fields false m fit =
+    let e : (0 + m) % 2 ^ 63 / 2 ^ 52 ≡ m / 2 ^ 52 = omega arith in
+    let d : (0 + m) % 2 ^ 52 ≡ m % 2 ^ 52 = omega arith in
+    let h : 0 + m < 2 ^ 63 = omega arith in
+    ap (λ (b : Bool). ofFields binary64 b ((0 + m) % 2 ^ 63 / 2 ^ 52) ((0 + m) % 2 ^ 52)) (lt-leb _ _ h)
+    ∙ ap (λ (k : ℕ). ofFields binary64 false k ((0 + m) % 2 ^ 52)) e
+    ∙ ap (λ (k : ℕ). ofFields binary64 false (m / 2 ^ 52) k) d
 
-      go : (t u v w : Bool) → (T t → 0x7ff0_0000_0000_0000 < m) → (T (not t) → m ≤ 0x7ff0_0000_0000_0000)
-          → (T u → 1151 ≤ m / 2 ^ 52) → (T (not u) → m / 2 ^ 52 < 1151) → (T v → 897 ≤ m / 2 ^ 52) → (T (not v) → m / 2 ^ 52 < 897) → (T w → 872 ≤ m /
-          2 ^ 52) → (T (not w) → m / 2 ^ 52 < 872)
-          → NearestIs s (m / 2 ^ 52) (m % 2 ^ 52) (cond t 0x7fc0_0000 (cond u 0x7f80_0000 (cond v ((m / 2 ^ 52 - 897) * 2 ^ 23 + closest (2 ^ 52 + m %
-          2 ^ 52) (2 ^ 29)) (cond w (closest (2 ^ 52 + m % 2 ^ 52) (2 ^ (926 - m / 2 ^ 52))) 0))))
-      go true u v w a _ _ _ _ _ _ _ =
-          let h = a tt in
-          let x : m / 2 ^ 52 ≡ 2047 = omega arith in
-          let y : 0 < m % 2 ^ 52 = omega arith in
-          ap (λ (k : ℕ). nearestBinary32 (ofFields binary64 s k (m % 2 ^ 52))) x ∙ nan-of s (m % 2 ^ 52) y ∙ nan-bits s
-      go false true v w _ a b _ _ _ _ _ =
-          let h = a tt in
-          let x : m / 2 ^ 52 ≤ 2047 = omega arith in
-          at-top s (m / 2 ^ 52) (m % 2 ^ 52) D (b tt) x (λ (q : m / 2 ^ 52 ≡ 2047). omega arith)
-      go false false true w _ _ _ a b _ _ _ = at-normal s (m / 2 ^ 52) (m % 2 ^ 52) D (b tt) (a tt)
-      go false false false true _ _ _ _ _ a b _ =
-          let h = b tt in
-          let p : 0 < m / 2 ^ 52 = omega arith in
-          at-low s (m / 2 ^ 52) (m % 2 ^ 52) D p (a tt)
-      go false false false false _ _ _ _ _ _ _ a = at-tiny s (m / 2 ^ 52) (m % 2 ^ 52) D (a tt)
+module _ (m : ℕ) (fit : m < 2 ^ 63) where
+  -- the f32 with the bits w is the nearest to the f64 with the bits m
+  abbrev To : ℕ → Type 0
+  To w = (s : Bool) → ofBits binary32 (cond s (2 ^ 31) 0 + w) ≡ nearestBinary32 (ofBits binary64 (cond s (2 ^ 63) 0 + m))
 
--- ---- the theorem
-by-bits : (b : ℕ) → b < 2 ^ 64 → nearestBinary32 (ofBits binary64 b) ≡ ofBits binary32 (nearestWord b)
-unfolding ofBits nearestWord NearestIs
-by-bits b h =
-    let m : b % 2 ^ 63 < 2 ^ 63 = omega arith in
-    let e : b % 2 ^ 52 ≡ b % 2 ^ 63 % 2 ^ 52 = omega arith in
-    ap (λ (d : ℕ). nearestBinary32 (ofFields binary64 (leb (2 ^ 63) b) (b % 2 ^ 63 / 2 ^ 52) d)) e ∙ chosen (leb (2 ^ 63) b) (b % 2 ^ 63) m
+  to : (w : ℕ) → ((s : Bool) → NearestIs s (m / 2 ^ 52) (m % 2 ^ 52) w) → To w
+  unfolding NearestIs
+  to w h s = sym (ap nearestBinary32 (fields s m fit) ∙ h s)
 
-pub nearest-by-word : (x : Float) → T (fits binary64 x) → ofBits binary32 (nearestWord (toBits binary64 x)) ≡ nearestBinary32 x
-nearest-by-word x h = sym (by-bits (toBits binary64 x) (toBits-lt binary64 x h)) ∙ ap nearestBinary32 (ofBits-toBits binary64 x h)
+  D : m % 2 ^ 52 < 2 ^ 52
+  D = omega arith
+
+  pub to-nan : 0x7ff0_0000_0000_0000 < m → To 0x7fc0_0000
+  unfolding NearestIs
+  to-nan h =
+      let x : m / 2 ^ 52 ≡ 2047 = omega arith in
+      let y : 0 < m % 2 ^ 52 = omega arith in
+      to 0x7fc0_0000 (λ (s : Bool). ap (λ (k : ℕ). nearestBinary32 (ofFields binary64 s k (m % 2 ^ 52))) x ∙ nan-of s (m % 2 ^ 52) y ∙ nan-bits s)
+
+  pub to-infinity : m ≤ 0x7ff0_0000_0000_0000 → 1151 ≤ m / 2 ^ 52 → To 0x7f80_0000
+  to-infinity h l =
+      let x : m / 2 ^ 52 ≤ 2047 = omega arith in
+      to 0x7f80_0000 (λ (s : Bool). at-top s (m / 2 ^ 52) (m % 2 ^ 52) D l x (λ (q : m / 2 ^ 52 ≡ 2047). omega arith))
+
+  pub to-normal : 897 ≤ m / 2 ^ 52 → m / 2 ^ 52 < 1151 → {q : ℕ} → q ≡ closest (2 ^ 52 + m % 2 ^ 52) (2 ^ 29) → To ((m / 2 ^ 52 - 897) * 2 ^ 23 + q)
+  to-normal a b e = subst (λ (q : ℕ). To ((m / 2 ^ 52 - 897) * 2 ^ 23 + q)) (sym e) (to _ (λ (s : Bool). at-normal s (m / 2 ^ 52) (m % 2 ^ 52) D a b))
+
+  pub to-subnormal : 872 ≤ m / 2 ^ 52 → m / 2 ^ 52 < 897 → {q : ℕ} → q ≡ closest (2 ^ 52 + m % 2 ^ 52) (2 ^ (926 - m / 2 ^ 52)) → To q
+  to-subnormal a b e =
+      let p : 0 < m / 2 ^ 52 = omega arith in
+      subst To (sym e) (to _ (λ (s : Bool). at-low s (m / 2 ^ 52) (m % 2 ^ 52) D p b))
+
+  pub to-zero : m / 2 ^ 52 < 872 → To 0
+  to-zero b = to 0 (λ (s : Bool). at-tiny s (m / 2 ^ 52) (m % 2 ^ 52) D b)

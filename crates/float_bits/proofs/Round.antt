@@ -1,9 +1,9 @@
 -- The nearest whole number to n / u, by how the rest compares with what it lacks of u; and what a shift by r leaves.
 use mathlib.Core.Path.{_≡_, refl, sym, ap, _∙_, subst}
-use Prim.Native.Nat.{ℕ, suc, _+_, _-_, _*_, _/_, _%_, _^_, _<_, _≤_, compare, Ordering, Ordering·lt, Ordering·eq, Ordering·gt}
+use Prim.Native.Nat.{ℕ, suc, _+_, _*_, _/_, _%_, _^_, _<_, _≤_, compare, Ordering, Ordering·lt, Ordering·eq, Ordering·gt}
 use mathlib.Core.Bool.{not}
 use native.Mathlib.Omega.{arith}
-use native.Mathlib.Nat.{le-trans, one-mul, mod-eq-of-lt, mod-lt, div-add-mod', mul-le-mul-left, div-eq-of-lt, zero-mul}
+use native.Mathlib.Nat.{le-trans, one-mul, mod-eq-of-lt, mod-lt, div-add-mod', mul-le-mul-left, div-eq-of-lt}
 use lib.Dec.{T, isLe, isEq, eqb, leb→le, nleb→lt, eqb→eq, eqb-refl}
 use lib.Arith.{lt-of-le-ne}
 use lib.Pow.{pow-lt, pow-pos, pow-mono, shr-lt}

@@ -1,11 +1,12 @@
 // A float and its bits at both widths, a NaN included, and the rounding of an f64 to the nearest f32.
 // The language's own conversions take no NaN; these take every value.
 ghost use mathlib.Core.Path.{_≡_};
-ghost use Prim.Native.Nat.{_^_, _<_};
+ghost use mathlib.Core.Bool.{Bool, cond};
+ghost use Prim.Native.Nat.{_+_, _^_, _<_};
 ghost use lib.Ieee as Ieee;
 ghost use lib.Ieee.{binary32, binary64};
 ghost use lib.Ieee.Nearest.{closest};
-ghost use Rattle.float_bits.specs.Nearest.{nearestBinary32, nearestMagnitude, nearestWord};
+ghost use Rattle.float_bits.specs.Nearest.{nearestBinary32};
 
 // The bits of x. A NaN is the quiet one with a clear sign and no payload, as a result codes it.
 pub fn word_of_f64(x: f64) -> u64
@@ -63,12 +64,13 @@ fn shift_to_nearest(n: u64, r: u64) -> u64
     }
 }
 
-// The bits of the f32 nearest to the f64 whose bits, the sign taken off, are m.
+// The bits of the f32 nearest to the f64 whose bits, the sign taken off, are m, whichever the sign s.
 // The exponent's field e is 896 more than the f32's. From 1151 the f32 is an infinity, from 897 a normal number (29 digits are
 // dropped, and a carry out of the digits raises the exponent by itself), from 872 a subnormal one, below that 0.
 fn nearest_magnitude(m: u64) -> u64
     requires { ⌜ m < 2 ^ 63 ⌝ }
-    ensures { λ r. ⌜ (r ≡ nearestMagnitude m) × (r < 2 ^ 31) ⌝ }
+    ensures nearest { λ r. ⌜ ((s : Bool) → Ieee.ofBits binary32 (cond s (2 ^ 31) 0 + r) ≡ nearestBinary32 (Ieee.ofBits binary64 (cond s (2 ^ 63) 0 + m))) ⌝ }
+    ensures { λ r. ⌜ r < 2 ^ 31 ⌝ }
 {
     if 0x7ff0_0000_0000_0000 < m {
         return 0x7fc0_0000;
@@ -90,7 +92,7 @@ fn nearest_magnitude(m: u64) -> u64
 
 // The bits of the f32 nearest to the f64 with the bits b.
 fn nearest_word(b: u64) -> u32
-    ensures { λ r. ⌜ r ≡ nearestWord b ⌝ }
+    ensures { λ r. ⌜ Ieee.ofBits binary32 r ≡ nearestBinary32 (Ieee.ofBits binary64 b) ⌝ }
 {
     let w = nearest_magnitude(b % 0x8000_0000_0000_0000);
     if 0x8000_0000_0000_0000 <= b {

@@ -7,11 +7,10 @@ use mathlib.Core.Logic.{_⊎_, inl, inr}
 use lib.Dec.{lit≤, lit<, leb·zero, leb·suc-suc, T, leb, ltb, leb→le, nleb→lt, ltb→lt, nltb→le}
 use lib.IntN.{ℤ, pos, negsuc, negℤ, subℕ, _+ℤ_, _-ℤ_, +ℤ-idr}
 use lib.Signed.{mag, leZ}
-use borrow.Author.Tests.{lt-ltb, le-ltb, le-leb, lt-leb, ltb-true}
+use borrow.Author.Tests.{lt-ltb, le-ltb, le-leb, ltb-true}
 use mir.Syntax.{w64}
 use mir.Val.{SFits, toZ, ofZ}
 use mir.Facts.{toZ-ofZ}
-use Rattle.numbers.specs.declared.NumberAnswer.{NumberAnswer}
 use Rattle.numbers.specs.declared.NumberAnswer.the-variants.{Value, Overflow}
 use Rattle.numbers.specs.declared.Number.the-variants.{Int}
 use Rattle.numbers.specs.declared.IntKind.the-variants.{I64}

@@ -2,15 +2,15 @@
 ghost use mathlib.Core.Path.{_≡_};
 ghost use lib.IntN.{_+ℤ_, _-ℤ_, _*ℤ_};
 ghost use Rattle.numbers.specs.declared.IntKind.the-variants.{I64};
-ghost use Rattle.numbers.specs.Scalars.{valueOf};
+ghost use Rattle.number_operands.specs.Operands.{valueOf};
 ghost use Rattle.numbers.specs.Arithmetic.{checked as checkedOf, checkedDiv, addOf, subOf, mulOf, divOf};
+use number_operands::OperandPair;
+use number_operands::SignMagnitude;
+use number_operands::checked;
+use number_operands::pair_of;
 use numbers::IntKind;
 use numbers::Number;
 use numbers::NumberAnswer;
-use numbers::OperandPair;
-use numbers::SignMagnitude;
-use numbers::checked;
-use numbers::pair_of;
 
 fn add_int(x: i64, y: i64) -> NumberAnswer
     ensures { λ r. ⌜ r ≡ checkedOf I64 (x +ℤ y) ⌝ }

@@ -1,18 +1,18 @@
 // Negate.
 ghost use mathlib.Core.Path.{_≡_};
 ghost use Rattle.numbers.specs.Kinds.{asKind, wrapping};
-ghost use Rattle.numbers.specs.Scalars.{valueOf};
+ghost use Rattle.number_operands.specs.Operands.{valueOf};
 ghost use Rattle.numbers.specs.Arithmetic.{negateOf};
 ghost use lib.IntN.{negℤ};
+use number_operands::Operand;
+use number_operands::SignMagnitude;
+use number_operands::is_signed;
+use number_operands::number_of_word;
+use number_operands::operand_of;
+use number_operands::word_of;
 use numbers::IntKind;
 use numbers::Number;
 use numbers::NumberAnswer;
-use numbers::Operand;
-use numbers::SignMagnitude;
-use numbers::is_signed;
-use numbers::number_of_word;
-use numbers::operand_of;
-use numbers::word_of;
 
 // A wrapping subtraction from zero, on the bits in two's complement: the least number of the kind gives itself.
 fn negate_wrapping(kind: IntKind, x: SignMagnitude) -> Number

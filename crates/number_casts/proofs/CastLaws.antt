@@ -4,8 +4,8 @@ use mathlib.Core.Bool.{Bool, true, false, not, cond}
 use Prim.Native.Nat.{ℕ, zero, suc, _+_, _-_, _*_, _/_, _%_, _^_, _<_, _≤_, min}
 use native.Mathlib.Omega.{arith}
 use native.Mathlib.Nat.{le-trans, le-of-lt, lt-of-lt-of-le}
-use lib.Dec.{T, leb, ltb, eqb, ltb→lt, nltb→le, lit≤, lit<}
-use lib.IntN.{ℤ, pos, negsuc, negℤ}
+use lib.Dec.{T, leb, ltb, eqb, ltb→lt, nltb→le, lit≤}
+use lib.IntN.{ℤ, pos, negℤ}
 use lib.Count.{trailingZeros}
 use lib.Ieee.{Format, prec, emax, low, size, units, round, neg, ofInt, Float, nan, inf, fin, binary64, up, down, minus, odd, fits, ofFields, ofBits, toBits, toUnsigned, toSigned}
 use lib.Ieee.Bits.{ofBits-toBits}
@@ -15,16 +15,16 @@ use borrow.Author.Tests.{lt-leb, eq-eqb, ne-eqb}
 use Rattle.numbers.specs.declared.CastTarget.{CastTarget}
 use Rattle.numbers.specs.declared.Number.{Number}
 use Rattle.numbers.specs.declared.Number.the-variants.{Int}
-use Rattle.numbers.specs.declared.NumberAnswer.{NumberAnswer}
 use Rattle.numbers.specs.declared.NumberAnswer.the-variants.{Value, InvalidCast}
 use Rattle.numbers.specs.declared.IntKind.{IntKind}
 use Rattle.numbers.specs.declared.IntKind.the-variants.{I64, U64}
-use Rattle.numbers.specs.declared.WholePart.{WholePart}
-use Rattle.numbers.specs.declared.WholePart.the-variants.{Below64, Below127, Beyond}
+use Rattle.number_casts.specs.declared.WholePart.{WholePart}
+use Rattle.number_casts.specs.declared.WholePart.the-variants.{Below64, Below127, Beyond}
 use Rattle.numbers.specs.Kinds.{intKindCode, inRange, asKind, lowBits, wrapping}
 use Rattle.numbers.specs.Scalars.{Scalar, integer, scalarOf}
 use Rattle.numbers.specs.Answers.{pick}
-use Rattle.numbers.specs.Casts.{castable, castTo, castOf, truncated, asFloat, castInteger, wholePartOf, pickWhole}
+use Rattle.numbers.specs.Casts.{castable, castTo, castOf, truncated, asFloat, castInteger}
+use Rattle.number_casts.specs.Whole.{wholePartOf, pickWhole}
 use Rattle.numbers.proofs.Signs.{signed}
 use Rattle.numbers.proofs.Ranges.{outside}
 use Rattle.numbers.proofs.Wrap.{wrapping-word, wrapping-in, low-of-64, neg-word}

@@ -3,37 +3,18 @@ use mathlib.Core.Path.{_≡_, refl, sym, ap, _∙_, subst}
 use mathlib.Core.Bool.{Bool, true, false, not, cond}
 use Prim.Native.Nat.{ℕ, zero, suc, _+_, _-_, _*_, _/_, _%_, _^_, _<_, _≤_, min}
 use native.Mathlib.Omega.{arith}
-use native.Mathlib.Nat.{
-  le-of-lt,
-  div-le-self,
-  lt-of-le-of-lt,
-  mul-assoc,
-  mul-div-cancel,
-  div-eq-of-lt,
-  mod-eq-of-lt,
-  lt-of-lt-of-le,
-  le-trans,
-  le-of-eq,
-  mul-le-mul,
-  mul-le-mul-right,
-  mul-le-mul-left,
-  mul-mod-left,
-  le-add-right,
-  mul-one,
-}
-use lib.Dec.{T, leb, ltb, eqb, ltb→lt, nltb→le, lit≤, lit<}
+use native.Mathlib.Nat.{le-of-lt, div-le-self, lt-of-le-of-lt, mul-assoc, mul-div-cancel, div-eq-of-lt, mod-eq-of-lt, lt-of-lt-of-le, le-trans, le-of-eq, mul-le-mul-right, mul-mod-left, le-add-right, mul-one}
+use lib.Dec.{T, ltb, eqb, ltb→lt, nltb→le, lit≤, lit<}
 use lib.Pow.{pow-add, pow-pos, pow-mono, shl-lt, shr-lt}
-use lib.IntN.{ℤ, pos, negsuc, negℤ, natAbs}
 use mir.Facts.{no-eqb}
-use borrow.Author.Tests.{lt-ltb, le-ltb, le-leb, lt-leb}
-use lib.Ieee.{Float, nan, inf, fin, binary64, up, down, odd, fits, ofFields, ofBits, toBits, toUnsigned, toSigned}
+use borrow.Author.Tests.{lt-ltb, le-ltb, lt-leb}
+use lib.Ieee.{Float, nan, inf, fin, binary64, up, down, odd, ofFields, ofBits, toUnsigned}
 use lib.Ieee.Fits.{down-pos}
-use lib.Ieee.Bits.{ofBits-toBits, cond-no}
+use lib.Ieee.Bits.{cond-no}
 use lib.Ieee.Exact.{HasValue, odd-sign}
 use lib.Ieee.Nearest.{div-same}
-use Rattle.numbers.specs.declared.WholePart.{WholePart}
-use Rattle.numbers.specs.declared.WholePart.the-variants.{Below64, Below127, Beyond}
-use Rattle.numbers.specs.Casts.{wholePartOf, pickWhole}
+use Rattle.number_casts.specs.declared.WholePart.the-variants.{Below64, Below127, Beyond}
+use Rattle.number_casts.specs.Whole.{wholePartOf, pickWhole}
 
 -- ---- the whole part of a value, from a fraction that it equals
 unsigned-val : (y : Float) (a c : ℕ) → 0 < c → HasValue y false a c → toUnsigned 128 y ≡ min (a / c) (2 ^ 128 - 1)

@@ -5,20 +5,27 @@ ghost use lib.IntN.{ℤ};
 ghost use lib.Ieee as Ieee;
 ghost use lib.Ieee.{binary64};
 ghost use Rattle.numbers.specs.Kinds.{inRange, lowBits, twosComplement};
-ghost use Rattle.numbers.specs.Scalars.{valueOf};
-ghost use Rattle.numbers.specs.Casts.{wholePartOf, castInteger, castTo, castOf};
+ghost use Rattle.number_operands.specs.Operands.{valueOf};
+ghost use Rattle.numbers.specs.Casts.{castInteger, castTo, castOf};
+ghost use Rattle.number_casts.specs.Whole.{wholePartOf};
+use number_operands::Operand;
+use number_operands::SignMagnitude;
+use number_operands::in_range;
+use number_operands::int_kind_code;
+use number_operands::number_of_word;
+use number_operands::operand_of;
+use number_operands::word_of;
 use numbers::CastTarget;
 use numbers::IntKind;
 use numbers::Number;
 use numbers::NumberAnswer;
-use numbers::Operand;
-use numbers::SignMagnitude;
-use numbers::WholePart;
-use numbers::in_range;
-use numbers::int_kind_code;
-use numbers::number_of_word;
-use numbers::operand_of;
-use numbers::word_of;
+
+// The whole part of a float's magnitude: itself below 2^64, its low 64 bits below 2^127, or too large for 128 bits with a sign.
+pub enum WholePart {
+    Below64(u64),
+    Below127(u64),
+    Beyond,
+}
 
 // The whole part of the magnitude of the f64 with the bits b. The exponent's field is e, and the digits stand for sig * 2^(e - 1075).
 fn whole_part(b: u64) -> WholePart
@@ -175,7 +182,7 @@ fn low_word(x: f64) -> u64
 pub fn int_to_float_word(p: u64) -> u64
     ensures { λ r. ⌜ Ieee.ofBits binary64 r ≡ Ieee.ofInt binary64 (twosComplement 63 p) ⌝ }
 {
-    float_bits::word_of_f64(nearest_to_int(numbers::i64_of_word(p)))
+    float_bits::word_of_f64(nearest_to_int(number_operands::i64_of_word(p)))
 }
 
 pub fn float_to_int_word(p: u64) -> u64

@@ -3,7 +3,7 @@ use mathlib.Core.Path.{_≡_, refl, sym, ap, _∙_}
 use mathlib.Core.Bool.{Bool, true, false, not}
 use Prim.Native.Nat.{ℕ, zero, suc}
 use lib.Dec.{ltb, eqb, leb·zero, leb·suc-zero, leb·suc-suc, eqb·suc-zero}
-use lib.IntN.{ℤ, pos, negsuc, negℤ}
+use lib.IntN.{ℤ, pos, negℤ}
 use lib.Signed.{ltZ}
 use Rattle.numbers.specs.declared.Order.the-variants.{Less, Equal, Greater}
 use Rattle.numbers.specs.Compare.{integerOrder, pickOrder}

@@ -1,14 +1,14 @@
 // The order of two numbers, and the four ordered comparisons. Two Ints are compared in the type itself.
 ghost use mathlib.Core.Path.{_≡_};
 ghost use lib.Signed.{ltZ};
-ghost use Rattle.numbers.specs.Scalars.{valueOf};
+ghost use Rattle.number_operands.specs.Operands.{valueOf};
 ghost use Rattle.numbers.specs.Compare.{integerOrder, floatOrder, compareOf, comparisonOf, lessOf, lessEqOf, greaterOf, greaterEqOf};
+use number_operands::OperandPair;
+use number_operands::SignMagnitude;
+use number_operands::pair_of;
 use numbers::ComparisonAnswer;
 use numbers::Number;
-use numbers::OperandPair;
 use numbers::Order;
-use numbers::SignMagnitude;
-use numbers::pair_of;
 
 fn is_below(a: SignMagnitude, b: SignMagnitude) -> bool
     ensures { λ r. ⌜ r ≡ ltZ (valueOf a) (valueOf b) ⌝ }

@@ -28,7 +28,7 @@ fn number_coded(answer: NumberAnswer) -> Worked {
     let fault = wide(numbers::fault_number(answer));
     match answer {
         NumberAnswer::Value(x) => Worked::Answer(Coded {
-            kind: wide(numbers::kind_code(x)),
+            kind: wide(number_operands::kind_code(x)),
             word: number_codes::payload_of(x),
         }),
         _ => Worked::Answer(Coded {

@@ -1,19 +1,18 @@
 -- A kind's numbers by their places, the least first: differences of naturals, what is in range, and the word at a place. For every kind of at most 32
 -- bits. Assumes nothing.
-use mathlib.Core.Path.{_≡_, refl, sym, ap, _∙_, subst}
+use mathlib.Core.Path.{_≡_, refl, sym, ap, _∙_}
 use mathlib.Core.Bool.{Bool, true, false, not, cond, Bool·beq}
 use mathlib.Core.List.{List, [], _∷_}
 use mathlib.Core.Logic.{_⊎_, inl, inr, ⊎-elim}
 use Prim.Native.Nat.{ℕ, zero, suc, _+_, _-_, _*_, _%_, _^_, _<_, _≤_}
 use native.Mathlib.Omega.{arith}
 use native.Mathlib.Nat.{mod-eq-of-lt, pow-suc, mul-le-mul, lt-of-le-of-lt}
-use lib.Dec.{T, eqb, leb, ltb, lit<, ltb→lt, nltb→le}
+use lib.Dec.{T, eqb, ltb, lit<, ltb→lt, nltb→le}
 use lib.Ieee.{unlike}
 use lib.IntN.{ℤ, pos, negsuc, negℤ, subℕ, _+ℤ_, _-ℤ_, _*ℤ_}
 use lib.Signed.{ltZ}
 use borrow.Author.Tests.{lt-ltb, le-ltb, le-leb, lt-leb, ne-eqb, eqb-true}
 use Rattle.numbers.specs.declared.Number.the-variants.{UInt}
-use Rattle.numbers.specs.declared.NumberAnswer.{NumberAnswer}
 use Rattle.numbers.specs.declared.NumberAnswer.the-variants.{Value, Overflow}
 use Rattle.numbers.specs.declared.IntKind.{IntKind}
 use Rattle.numbers.specs.declared.IntKind.the-variants.{I64, U64, I32, U32, U8, I8, U16, I16}

@@ -1,6 +1,5 @@
--- First signs and magnitudes; by these, the ranges of the kinds, wrapping, and sums, products and quotients; last, two operands of one kind.
+-- First signs and magnitudes; by these, the ranges of the kinds, wrapping, and sums, products and quotients.
 pub mod Signs
 pub mod Ranges
 pub mod Wrap
 pub mod Sums
-pub mod Pairs

@@ -1,17 +1,16 @@
 -- The sum, the product and the quotient of signs and magnitudes, and what a product past 64 bits says. Assumes nothing.
 use mathlib.Core.Path.{_≡_, refl, sym, ap, _∙_, subst}
-use mathlib.Core.Bool.{Bool, true, false, not, cond, Bool·beq}
+use mathlib.Core.Bool.{Bool, true, false, not, Bool·beq}
 use Prim.Native.Nat.{ℕ, zero, suc, _+_, _-_, _*_, _/_, _^_, _<_, _≤_}
 use native.Mathlib.Omega.{arith}
 use native.Mathlib.Nat.{mul-comm, le-div-iff-mul-le, div-lt-iff-lt-mul, mul-zero, zero-mul, zero-div, lt-of-le-of-lt}
-use lib.Dec.{eqb, lit<}
-use lib.IntN.{ℤ, pos, negsuc, negℤ, natAbs, _+ℤ_, _-ℤ_, _*ℤ_, negℤ-negℤ, negℤ-+ℤ, +ℤ-negℤ-cancel, +ℤ-comm}
+use lib.Dec.{lit<}
+use lib.IntN.{ℤ, pos, negℤ, natAbs, _+ℤ_, _*ℤ_, negℤ-negℤ, negℤ-+ℤ, +ℤ-negℤ-cancel, +ℤ-comm}
 use lib.Signed.{quotZ}
 use lib.Ieee.{unlike}
 use borrow.Author.Tests.{eq-eqb, ne-eqb}
 use Rattle.numbers.specs.declared.IntKind.{IntKind}
 use Rattle.numbers.specs.declared.NumberAnswer.the-variants.{ZeroDivisor}
-use Rattle.numbers.specs.Answers.{pick}
 use Rattle.numbers.specs.Arithmetic.{checked, checkedDiv}
 use Rattle.numbers.proofs.Signs.{signed, no}
 

@@ -4,7 +4,7 @@ use mathlib.Core.Bool.{Bool, true, false, cond}
 use Prim.Native.Nat.{ℕ, zero, suc, _+_, _-_, _*_, _/_, _%_, _^_, _<_, _≤_}
 use native.Mathlib.Omega.{arith}
 use native.Mathlib.Nat.{mod-eq-of-lt, mod-lt, pow-suc, add-mul, div-add-mod'}
-use lib.Dec.{T, ltb}
+use lib.Dec.{ltb}
 use lib.Arith.{comp-comp}
 use lib.Pow.{pow-pos, pow-add, low, shr-lt, mod-mod-pow}
 use lib.IntN.{ℤ, pos, negsuc, negℤ, _-ℤ_}
@@ -17,7 +17,7 @@ use borrow.Author.Tests.{lt-ltb, le-ltb}
 use Rattle.numbers.specs.declared.IntKind.{IntKind}
 use Rattle.numbers.specs.declared.IntKind.the-variants.{I64, U64, I32, U32, U8, I8, U16, I16}
 use Rattle.numbers.specs.Kinds.{bitsOf, isSigned, inRange, lowBits, twosComplement, wrapping}
-use Rattle.numbers.proofs.Signs.{minus-pos, no}
+use Rattle.numbers.proofs.Signs.{minus-pos}
 use Rattle.numbers.proofs.Ranges.{in-signed, in-unsigned, no-negative}
 
 -- ---- fewer low bits of more low bits

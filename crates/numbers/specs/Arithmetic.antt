@@ -1,6 +1,4 @@
 -- Add, Sub, Mul, Div and Negate. What an integer kind does is one definition over ℤ, with the kind as its argument.
-use Prim.Native.Nat.{ℕ}
-use mathlib.Core.Bool.{Bool, true, false}
 use lib.IntN.{ℤ, negℤ, natAbs, _+ℤ_, _-ℤ_, _*ℤ_}
 use lib.Signed.{quotZ}
 use lib.Dec.{eqb}

@@ -1,9 +1,8 @@
 -- Cast: ten targets from nine kinds.
-use Prim.Native.Nat.{ℕ, _%_, _^_}
-use mathlib.Core.Bool.{Bool, true, false, not}
+use mathlib.Core.Bool.{Bool, true, not}
 use mathlib.Core.List.{List, [], _∷_}
 use lib.IntN.{ℤ}
-use lib.Dec.{ltb, eqb}
+use lib.Dec.{eqb}
 use lib.Ieee as Ieee
 use lib.Ieee.{binary64}
 use Rattle.float_bits.specs.Nearest.{nearestBinary32}
@@ -15,8 +14,6 @@ use Rattle.numbers.specs.declared.IntKind.{IntKind}
 use Rattle.numbers.specs.declared.IntKind.the-variants.{I64, U64, I32, U32, U8, I8, U16, I16}
 use Rattle.numbers.specs.declared.CastTarget.{CastTarget}
 use Rattle.numbers.specs.declared.CastTarget.the-variants.{ToInteger, ToFloat, ToSFloat}
-use Rattle.numbers.specs.declared.WholePart.{WholePart}
-use Rattle.numbers.specs.declared.WholePart.the-variants.{Below64, Below127, Beyond}
 use Rattle.numbers.specs.Kinds.{intKindCode, inRange, asKind, wrapping}
 use Rattle.numbers.specs.Scalars.{Scalar, integer, double, single, scalarOf}
 use Rattle.numbers.specs.Answers.{pick}
@@ -66,11 +63,3 @@ castable (single x) = true
 
 unfoldable pub castOf : CastTarget → Number → NumberAnswer
 castOf t a = pick (castable (scalarOf a)) (castTo t (truncated (scalarOf a)) (asFloat (scalarOf a))) InvalidCast
-
--- ---- what the code keeps of the whole part q of a float's magnitude: itself below 2^64, its low 64 bits below 2^127
-abbrev pub pickWhole : Bool → WholePart → WholePart → WholePart
-pickWhole true a b = a
-pickWhole false a b = b
-
-unfoldable pub wholePartOf : ℕ → WholePart
-wholePartOf q = pickWhole (ltb q (2 ^ 64)) (Below64 q) (pickWhole (ltb q (2 ^ 127)) (Below127 (q % 2 ^ 64)) Beyond)

@@ -1,5 +1,5 @@
 -- The ten kinds of numbers, and what every integer kind has: its range, and what a number out of range wraps to.
-use Prim.Native.Nat.{ℕ, zero, suc, _-_, _%_, _^_}
+use Prim.Native.Nat.{ℕ, suc, _-_, _%_, _^_}
 use mathlib.Core.Bool.{Bool, true, false, cond}
 use lib.IntN.{ℤ, pos, negsuc, natAbs}
 use lib.Dec.{leb, ltb}

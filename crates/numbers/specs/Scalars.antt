@@ -1,18 +1,12 @@
 -- A number as the integer or the IEEE 754 value that it stands for, and two numbers of one kind.
-use Prim.Native.Nat.{ℕ}
-use mathlib.Core.Bool.{Bool, true, false, cond}
-use lib.IntN.{ℤ, pos, negℤ}
+use mathlib.Core.Bool.{Bool, true, false}
+use lib.IntN.{ℤ, pos}
 use lib.Dec.{eqb}
 use lib.Ieee as Ieee
 use Rattle.numbers.specs.declared.Number.{Number}
 use Rattle.numbers.specs.declared.Number.the-variants.{Int, UInt, SInt, SUInt, Float, SFloat, Byte, SByte, BByte, BSByte}
 use Rattle.numbers.specs.declared.IntKind.{IntKind}
 use Rattle.numbers.specs.declared.IntKind.the-variants.{I64, U64, I32, U32, U8, I8, U16, I16}
-use Rattle.numbers.specs.declared.SignMagnitude.{SignMagnitude}
-use Rattle.numbers.specs.declared.Operand.{Operand}
-use Rattle.numbers.specs.declared.Operand.the-variants.{Integer, Double, Single}
-use Rattle.numbers.specs.declared.OperandPair.{OperandPair}
-use Rattle.numbers.specs.declared.OperandPair.the-variants.{Integers, Doubles, Singles, Mixed}
 use Rattle.numbers.specs.Kinds.{intKindCode}
 
 pub data Scalar : Type 0 where
@@ -53,18 +47,3 @@ sameKind (double a) (single b) = mixed
 sameKind (single a) (integer k b) = mixed
 sameKind (single a) (double b) = mixed
 sameKind (single a) (single b) = singles a b
-
--- ---- what the code's forms stand for: an integer is a sign and a magnitude there
-abbrev pub valueOf : SignMagnitude → ℤ
-valueOf x = cond (x .negative) (negℤ (pos (x .magnitude))) (pos (x .magnitude))
-
-abbrev pub operandScalar : Operand → Scalar
-operandScalar (Integer k x) = integer k (valueOf x)
-operandScalar (Double x) = double x
-operandScalar (Single x) = single x
-
-abbrev pub operandPair : OperandPair → ScalarPair
-operandPair (Integers k a b) = integers k (valueOf a) (valueOf b)
-operandPair (Doubles a b) = doubles a b
-operandPair (Singles a b) = singles a b
-operandPair Mixed = mixed

@@ -1,9 +1,9 @@
 -- The worked values of document 01, as one table: what is asked, and the answer that the document gives.
 use Prim.Native.Nat.{ℕ, _^_, _-_, _*_}
 use mathlib.Core.Path.{_≡_, refl}
-use mathlib.Core.Bool.{Bool, true, false}
+use mathlib.Core.Bool.{true, false}
 use mathlib.Core.List.{List, [], _∷_, map}
-use lib.IntN.{ℤ, pos, negsuc}
+use lib.IntN.{pos, negsuc}
 use lib.Ieee.{nan, fin, round, ofInt, toSigned}
 use Rattle.float_bits.specs.Nearest.{nearestBinary32}
 use Rattle.numbers.specs.declared.Number.{Number}

@@ -1,14 +1,12 @@
--- `float_bits::nearest_magnitude` meets its contract: each answer is that of the test that led there. Assumes nothing.
+-- `float_bits::nearest_magnitude` meets its contract: each way is a case of `Nearest`. Assumes nothing.
 use borrow.Author.Needs.{needs}
-use borrow.Author.Tests.{lt-ltb, le-ltb, le-leb, lt-leb}
-use Prim.Native.Nat.{ℕ, _+_, _-_, _*_, _%_, _/_, _^_, _<_, _≤_}
-use mathlib.Core.Path.{_≡_, sym, ap, subst}
+use Prim.Native.Nat.{ℕ, _+_, _-_, _%_, _/_, _^_, _<_, _≤_}
+use mathlib.Core.Path.{_≡_, sym, subst}
 use lib.Ieee.Nearest.{closest}
 use native.Mathlib.Omega.{arith}
-use native.Mathlib.Nat.{le-trans, lt-of-lt-of-le}
-use lib.Dec.{lit≤}
+use native.Mathlib.Nat.{lt-of-lt-of-le}
 use lib.Pow.{pow-mono}
-use Rattle.float_bits.specs.Nearest.{nearestMagnitude}
+use Rattle.float_bits.proofs.Nearest.{to-nan, to-infinity, to-normal, to-subnormal, to-zero}
 use Rattle.float_bits.proofs.Round.{closest-le}
 use Rattle.float_bits.proofs.nearest_magnitude.Statement.{statement}
 use Rattle.float_bits.proofs.nearest_magnitude.Tie as tie
@@ -17,12 +15,10 @@ use Rattle.float_bits.proofs.nearest_magnitude.Lts as lts
 use Rattle.float_bits.proofs.shift_to_nearest.Reads as shift-to-nearest-reads
 
 returns : tie.Need-returns
-unfolding nearestMagnitude
-returns c = (simp (lt-ltb _ _ (c .if1 .taken)), search needs)
+returns c = (to-nan _ (c .before .pre) (c .if1 .taken), search needs)
 
 returns-2 : tie.Need-returns-2
-unfolding nearestMagnitude
-returns-2 c = (simp (le-ltb _ _ (c .before .if1 .left), le-leb _ _ (c .if2 .taken)), search needs)
+returns-2 c = (to-infinity _ (c .before .before .pre) (c .before .if1 .left) (c .if2 .taken), search needs)
 
 add-sig : tie.Need-add-sig
 add-sig c = search needs
@@ -52,14 +48,10 @@ add-result c =
     omega (arith, kept m (c .shift-to-nearest .result) (c .shift-to-nearest .ensures))
 
 returns-3 : tie.Need-returns-3
-unfolding nearestMagnitude
 returns-3 c =
-    let if2 = c .before .before .if2 in
-    let if1 = c .before .before .before .if1 in
-    let args = c .before .before .before .before .args in
-    let m = args .m in (
-      simp (le-ltb _ _ (if1 .left), lt-leb _ _ (if2 .left), le-leb _ _ (c .before .if3 .taken)) (ap (λ (x : ℕ). (m / 2 ^ 52 - 897) * 2 ^ 23 + x)
-          (c .shift-to-nearest .ensures)),
+    let start = c .before .before .before .before in
+    let m = start .args .m in (
+      to-normal m (start .pre) (c .before .if3 .taken) (c .before .before .if2 .left) (c .shift-to-nearest .ensures),
       omega (arith, kept m (c .shift-to-nearest .result) (c .shift-to-nearest .ensures)),
     )
 
@@ -70,29 +62,17 @@ shift-to-nearest-requires-2 : tie.Need-shift-to-nearest-requires-2
 shift-to-nearest-requires-2 c κs = search needs
 
 returns-4 : tie.Need-returns-4
-unfolding nearestMagnitude
 returns-4 c =
+    let start = c .before .before .before .before .before in
+    let m = start .args .m in
     let if3 = c .before .before .if3 in
-    let if2 = c .before .before .before .if2 in
-    let if1 = c .before .before .before .before .if1 in
-    let args = c .before .before .before .before .before .args in
-    let m = args .m in
     let l : 30 ≤ 926 - m / 2 ^ 52 = omega arith in (
-      simp (le-ltb _ _ (if1 .left), lt-leb _ _ (if2 .left), lt-leb _ _ (if3 .left), le-leb _ _ (c .before .if4 .taken)) (c .shift-to-nearest2 .ensures),
+      to-subnormal m (start .pre) (c .before .if4 .taken) (if3 .left) (c .shift-to-nearest2 .ensures),
       omega (arith, kept-low m (926 - m / 2 ^ 52) (c .shift-to-nearest2 .result) l (c .shift-to-nearest2 .ensures)),
     )
 
 returns-5 : tie.Need-returns-5
-unfolding nearestMagnitude
-returns-5 c = (
-  simp (
-    le-ltb _ _ (c .before .before .before .if1 .left),
-    lt-leb _ _ (c .before .before .if2 .left),
-    lt-leb _ _ (c .before .if3 .left),
-    lt-leb _ _ (c .if4 .left),
-  ),
-  search needs,
-)
+returns-5 c = (to-zero _ (c .before .before .before .before .pre) (c .if4 .left), search needs)
 
 pub nearest-magnitude-spec : {M : Type 1} → statement M
 nearest-magnitude-spec =

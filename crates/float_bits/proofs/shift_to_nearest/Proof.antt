@@ -1,7 +1,6 @@
 -- `float_bits::shift_to_nearest` meets its contract: the rest is n % 2^r, and the three ways are those of `closest`. Assumes nothing.
 use borrow.Author.Needs.{needs}
-use Prim.Native.Nat.{ℕ, suc, _%_, _^_, _*_, _+_, _/_, _<_}
-use mathlib.Core.Path.{_≡_, sym, _∙_}
+use mathlib.Core.Path.{sym, _∙_}
 use native.Mathlib.Omega.{arith}
 use native.Mathlib.Numerals.{add-one}
 use Rattle.float_bits.proofs.Round.{Shifted, shifted, closest-below, closest-above, closest-tie}

@@ -1,7 +1,7 @@
 -- `float_bits::word_of_f64` meets its contract: where x differs from itself it is the NaN. Assumes nothing.
 use borrow.Author.Needs.{needs}
 use mathlib.Core.Path.{sym, ap}
-use lib.Ieee.{Float, binary64, toBits}
+use lib.Ieee.{binary64, toBits}
 use Rattle.float_bits.proofs.Words.{only-nan, no-nan}
 use Rattle.float_bits.proofs.word_of_f64.Statement.{statement}
 use Rattle.float_bits.proofs.word_of_f64.Tie as tie

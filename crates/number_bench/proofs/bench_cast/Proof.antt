@@ -1,8 +1,8 @@
 -- `number_bench::bench_cast` meets its contract: after i turns the definition has the number at hand. Assumes nothing.
 use borrow.Author.Needs.{needs}
-use mathlib.Core.Path.{_≡_, refl, sym, ap, _∙_}
+use mathlib.Core.Path.{_≡_}
 use native.Mathlib.Omega.{arith}
-use Prim.Native.Nat.{ℕ, _+_, _-_, _≤_, _<_}
+use Prim.Native.Nat.{_-_, _≤_}
 use Rattle.number_bench.specs.Turns.{steps, thereAndBack}
 use Rattle.number_bench.proofs.Loops.{no-step, next-step, gone-and-back, all-cast}
 use Rattle.number_bench.proofs.bench_cast.Statement.{statement}

@@ -1,9 +1,9 @@
 -- `number_bench::bench_sub` meets its contract: after i turns the definition has the number at hand. Assumes nothing.
 use borrow.Author.Needs.{needs}
 use mathlib.Core.Logic.{inl, inr}
-use mathlib.Core.Path.{_≡_, refl, sym, ap, _∙_}
+use mathlib.Core.Path.{_≡_, ap}
 use native.Mathlib.Omega.{arith}
-use Prim.Native.Nat.{ℕ, _+_, _-_, _≤_, _<_}
+use Prim.Native.Nat.{_-_, _≤_}
 use denote.Enum.Declared.{tagOf}
 use Rattle.numbers.proofs.NumberAnswer as Answer
 use Rattle.numbers.specs.declared.Number.{Number}

@@ -1,10 +1,11 @@
 -- `numbers::casts::cast` meets its contract: every kind but UInt. Assumes nothing.
 use borrow.Author.Needs.{needs}
-use mathlib.Core.Path.{_≡_, refl, sym, ap, _∙_}
+use mathlib.Core.Path.{ap, _∙_}
 use lib.Ieee.{Float, toSigned}
-use Rattle.numbers.specs.Scalars.{valueOf, integer, double, single}
+use Rattle.numbers.specs.Scalars.{integer, double, single}
+use Rattle.number_operands.specs.Operands.{valueOf}
 use Rattle.numbers.specs.Casts.{castTo}
-use Rattle.numbers.proofs.Pairs.{stands}
+use Rattle.number_operands.proofs.Pairs.{stands}
 use Rattle.number_casts.proofs.CastLaws.{cast-scalar, cast-uint, cast-castable}
 use Rattle.number_casts.proofs.cast.Statement.{statement}
 use Rattle.number_casts.proofs.cast.Tie as tie

@@ -1,6 +1,6 @@
 -- `numbers::casts::cast_from_float` meets its contract: each target is one of the definition's. Assumes nothing.
 use borrow.Author.Needs.{needs}
-use mathlib.Core.Path.{_≡_, refl, sym, ap, _∙_}
+use mathlib.Core.Path.{sym, ap, _∙_}
 use lib.Ieee.{Float, toSigned}
 use Rattle.numbers.specs.declared.CastTarget.{CastTarget}
 use Rattle.numbers.specs.declared.NumberAnswer.the-variants.{Value}

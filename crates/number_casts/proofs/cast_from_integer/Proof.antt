@@ -1,12 +1,12 @@
 -- `numbers::casts::cast_from_integer` meets its contract: each target is one of the definition's. Assumes nothing.
 use borrow.Author.Needs.{needs}
-use mathlib.Core.Path.{_≡_, refl, sym, ap, _∙_}
+use mathlib.Core.Path.{sym, ap, _∙_}
 use lib.Ieee.{Float, binary64, ofInt}
 use Rattle.float_bits.specs.Nearest.{nearestBinary32}
 use Rattle.numbers.specs.declared.CastTarget.{CastTarget}
 use Rattle.numbers.specs.declared.NumberAnswer.the-variants.{Value}
 use Rattle.numbers.specs.declared.Number.the-variants as N
-use Rattle.numbers.specs.Scalars.{valueOf}
+use Rattle.number_operands.specs.Operands.{valueOf}
 use Rattle.numbers.specs.Casts.{castTo}
 use Rattle.number_casts.proofs.cast_from_integer.Statement.{statement}
 use Rattle.number_casts.proofs.cast_from_integer.Tie as tie

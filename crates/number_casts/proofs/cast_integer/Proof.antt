@@ -1,6 +1,6 @@
 -- `numbers::casts::cast_integer` meets its contract. Assumes nothing.
 use borrow.Author.Needs.{needs}
-use Rattle.numbers.specs.Scalars.{valueOf}
+use Rattle.number_operands.specs.Operands.{valueOf}
 use Rattle.number_casts.proofs.cast_integer.Statement.{statement}
 use Rattle.number_casts.proofs.cast_integer.Tie as tie
 

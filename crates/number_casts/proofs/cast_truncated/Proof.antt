@@ -1,6 +1,6 @@
 -- `numbers::casts::cast_truncated` meets its contract, by the float's whole part. Assumes nothing.
 use borrow.Author.Needs.{needs}
-use mathlib.Core.Path.{_≡_, refl, sym, ap, _∙_}
+use mathlib.Core.Path.{ap, _∙_}
 use mathlib.Core.Bool.{true, false}
 use Prim.Native.Nat.{_%_, _^_}
 use lib.Ieee.{binary64, ofBits, toUnsigned, toSigned}

@@ -1,6 +1,6 @@
 -- `numbers::casts::cast_word` meets its contract: target Int first, then the range. Assumes nothing.
 use borrow.Author.Needs.{needs}
-use mathlib.Core.Path.{_≡_, refl, sym, ap, _∙_}
+use mathlib.Core.Path.{sym, ap, _∙_}
 use Rattle.numbers.specs.declared.NumberAnswer.the-variants.{Value}
 use Rattle.number_casts.proofs.CastLaws.{cast-int, cast-fits, cast-invalid}
 use Rattle.number_casts.proofs.cast_word.Statement.{statement}

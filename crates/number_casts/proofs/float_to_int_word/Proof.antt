@@ -1,6 +1,6 @@
 -- What `low_word` promises of the float is what is wanted of p, as `f64_of_word` gives the float of the bits p.
 use borrow.Author.Needs.{needs}
-use mathlib.Core.Path.{_≡_, ap, _∙_}
+use mathlib.Core.Path.{ap, _∙_}
 use lib.Ieee.{Float, toSigned}
 use Rattle.numbers.specs.Kinds.{lowBits}
 use Rattle.number_casts.proofs.float_to_int_word.Statement.{statement}

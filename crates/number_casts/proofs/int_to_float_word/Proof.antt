@@ -1,6 +1,5 @@
 use borrow.Author.Needs.{needs}
-use mathlib.Core.Path.{_≡_, ap, _∙_}
-use lib.IntN.{ℤ}
+use mathlib.Core.Path.{ap, _∙_}
 use lib.Ieee.{binary64, ofBits, ofInt}
 use lib.Ieee.Bits.{ofBits-toBits}
 use mir.Syntax.{w64}

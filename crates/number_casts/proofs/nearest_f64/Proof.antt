@@ -1,8 +1,8 @@
 -- `numbers::casts::nearest_f64` meets its contract: rounding to nearest even is the same on both sides of zero. Assumes nothing.
 use borrow.Author.Needs.{needs}
-use mathlib.Core.Path.{_≡_, refl, sym, ap, _∙_}
+use mathlib.Core.Path.{sym, ap, _∙_}
 use lib.Ieee.{binary64, neg, ofInt}
-use Rattle.numbers.proofs.Signs.{value-neg, value-pos}
+use Rattle.number_operands.proofs.SignMagnitudes.{value-neg, value-pos}
 use Rattle.number_casts.proofs.CastLaws.{float-zero, float-neg}
 use Rattle.number_casts.proofs.nearest_f64.Statement.{statement}
 use Rattle.number_casts.proofs.nearest_f64.Tie as tie

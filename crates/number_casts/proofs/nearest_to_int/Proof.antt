@@ -1,7 +1,7 @@
 -- `number_casts::nearest_to_int` meets its contract: rounding to nearest even is the same on both sides of zero. Assumes nothing.
 use borrow.Author.Needs.{needs}
 use native.Mathlib.Omega.{arith}
-use mathlib.Core.Path.{_≡_, refl, sym, ap, _∙_}
+use mathlib.Core.Path.{ap, _∙_}
 use lib.Ieee.{binary64, neg, ofInt}
 use mir.Facts.{toZ-ofZ}
 use Rattle.numbers.proofs.Signs.{positive, negative}

@@ -1,6 +1,6 @@
 -- `numbers::casts::whole_part` meets its contract, by the exponent. Assumes nothing.
 use borrow.Author.Needs.{needs}
-use mathlib.Core.Path.{_≡_, refl, sym, ap, _∙_}
+use mathlib.Core.Path.{refl}
 use Prim.Native.Nat.{_%_, _^_}
 use native.Mathlib.Omega.{arith}
 use native.Mathlib.Nat.{mod-lt}

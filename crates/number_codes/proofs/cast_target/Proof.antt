@@ -1,9 +1,9 @@
 -- `number_codes::cast_target` meets its contract: the list by its index. Assumes nothing.
-use mathlib.Core.Path.{_≡_, refl, sym, ap, _∙_}
+use mathlib.Core.Path.{_≡_, refl, sym, ap}
 use Prim.Native.Nat.{ℕ, zero, suc, _≤_}
 use native.Mathlib.Omega.{arith}
 use mathlib.Core.List.{List, [], _∷_}
-use mathlib.Core.Option.{Option, none}
+use mathlib.Core.Option.{none}
 use lib.ListN.{getElem?, length}
 use Rattle.number_codes.specs.declared.FoundTarget.the-variants.{NoTarget}
 use Rattle.numbers.specs.Casts.{castTargets}

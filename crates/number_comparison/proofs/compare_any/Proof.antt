@@ -1,7 +1,7 @@
 -- `numbers::comparison::compare_any` meets its contract: each arm is one of the definition's. Assumes nothing.
 use borrow.Author.Needs.{needs}
-use mathlib.Core.Path.{_≡_, refl, sym, ap, _∙_}
-use Rattle.numbers.specs.Scalars.{operandPair}
+use mathlib.Core.Path.{sym, ap, _∙_}
+use Rattle.number_operands.specs.Operands.{operandPair}
 use Rattle.numbers.specs.Compare.{pairOrder}
 use Rattle.number_comparison.proofs.compare_any.Statement.{statement}
 use Rattle.number_comparison.proofs.compare_any.Tie as tie

@@ -1,5 +1,5 @@
 -- `numbers::comparison::compare_int` meets its contract, by the tests of the type itself. Assumes nothing.
-use mathlib.Core.Path.{_≡_, refl, sym, ap, _∙_}
+use mathlib.Core.Path.{_∙_}
 use mir.Facts.{toZ-ofZ}
 use Rattle.number_comparison.proofs.Orders.{order-less, order-greater, order-equal, under}
 use Rattle.number_comparison.proofs.compare_int.Statement.{statement}

@@ -1,7 +1,7 @@
 -- `numbers::comparison::compare_integers` meets its contract. Assumes nothing.
 use borrow.Author.Needs.{needs}
-use mathlib.Core.Path.{_≡_, refl, sym, ap, _∙_}
-use Rattle.numbers.specs.Scalars.{valueOf}
+use mathlib.Core.Path.{sym, _∙_}
+use Rattle.number_operands.specs.Operands.{valueOf}
 use Rattle.number_comparison.proofs.Orders.{order-less, order-greater, order-equal}
 use Rattle.number_comparison.proofs.compare_integers.Statement.{statement}
 use Rattle.number_comparison.proofs.compare_integers.Tie as tie

@@ -1,6 +1,6 @@
 -- `numbers::comparison::comparison_of` meets its contract: each arm is one of the definition's. Assumes nothing.
 use borrow.Author.Needs.{needs}
-use mathlib.Core.Path.{_≡_, refl, sym, ap, _∙_}
+use mathlib.Core.Path.{sym, ap}
 use Rattle.numbers.specs.Compare.{comparisonOf}
 use Rattle.number_comparison.proofs.comparison_of.Statement.{statement}
 use Rattle.number_comparison.proofs.comparison_of.Tie as tie

@@ -1,6 +1,6 @@
 -- `numbers::comparison::is_below` meets its contract, by the signs. Assumes nothing.
-use mathlib.Core.Path.{_≡_, refl, sym, ap, _∙_}
-use Rattle.numbers.proofs.Signs.{value-neg, value-pos}
+use mathlib.Core.Path.{_∙_}
+use Rattle.number_operands.proofs.SignMagnitudes.{value-neg, value-pos}
 use Rattle.number_comparison.proofs.Orders.{lt-nn, lt-pn, lt-np, lt-0p, under}
 use Rattle.number_comparison.proofs.is_below.Statement.{statement}
 use Rattle.number_comparison.proofs.is_below.Tie as tie

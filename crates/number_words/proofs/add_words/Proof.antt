@@ -1,7 +1,6 @@
 -- The sum of two places less `negatives` is the place of the sum of the numbers: below all places, at one, or above all.
-use borrow.Author.Needs.{needs}
 use native.Mathlib.Omega.{arith}
-use mathlib.Core.Path.{_≡_, _∙_}
+use mathlib.Core.Path.{_∙_}
 use Prim.Native.Nat.{_+_}
 use Rattle.number_words.proofs.Places.{sub-same, sum-is, at-place, below-all, above-all}
 use Rattle.number_words.proofs.add_words.Statement.{statement}

@@ -1,11 +1,10 @@
 -- p is 0, or q is compared with (2^64 - 1) / p: up to it the product fits, above it the product is 2^64 or more.
 use borrow.Author.Needs.{needs}
-use native.Mathlib.Omega.{arith}
 use native.Mathlib.Nat.{zero-mul}
 use lib.Dec.{lit<}
 use lib.IntN.{pos}
 use mathlib.Core.Bool.{false}
-use mathlib.Core.Path.{_≡_, _∙_, ap, sym}
+use mathlib.Core.Path.{_∙_, ap, sym}
 use Prim.Native.Nat.{ℕ, _*_}
 use Rattle.numbers.specs.declared.IntKind.the-variants.{U64}
 use Rattle.numbers.specs.Arithmetic.{checked}

@@ -1,8 +1,7 @@
 -- Two factors of the same sign have a product at or above zero's place, of different signs at or below it; each is at a place of the kind
 -- or past all of them.
-use borrow.Author.Needs.{needs}
 use native.Mathlib.Omega.{arith}
-use mathlib.Core.Path.{_≡_, refl, _∙_}
+use mathlib.Core.Path.{_∙_}
 use Prim.Native.Nat.{_+_, _-_, _*_}
 use Rattle.number_words.proofs.Places.{sub-same, small-product, alike, unalike, at-place, below-all, above-all}
 use Rattle.number_words.proofs.mul_words.Statement.{statement}

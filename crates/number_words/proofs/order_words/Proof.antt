@@ -1,7 +1,6 @@
 -- One case for each order: places are in the order of their numbers, by `less-is`.
-use borrow.Author.Needs.{needs}
 use borrow.Author.Tests.{lt-ltb, le-ltb}
-use mathlib.Core.Path.{_≡_, _∙_, sym, ap}
+use mathlib.Core.Path.{_∙_}
 use Rattle.number_comparison.proofs.Orders.{order-less, order-greater, order-equal}
 use Rattle.number_words.proofs.Places.{less-is}
 use Rattle.number_words.proofs.order_words.Statement.{statement}

@@ -1,6 +1,5 @@
 -- With q at most p the difference is in range, by `wide-value`; else it is below 0, by `wide-less`.
 use native.Mathlib.Omega.{arith}
-use lib.IntN.{ℤ}
 use mathlib.Core.Path.{_∙_, ap}
 use Prim.Native.Nat.{_-_}
 use Rattle.numbers.specs.declared.IntKind.the-variants.{U64}

@@ -1,7 +1,6 @@
 -- The difference of two places plus `negatives` is the place of the difference of the numbers: below all places, at one, or above all.
-use borrow.Author.Needs.{needs}
 use native.Mathlib.Omega.{arith}
-use mathlib.Core.Path.{_≡_, _∙_}
+use mathlib.Core.Path.{_∙_}
 use Prim.Native.Nat.{_+_}
 use Rattle.number_words.proofs.Places.{sub-same, difference-is, at-place, below-all, above-all}
 use Rattle.number_words.proofs.sub_words.Statement.{statement}

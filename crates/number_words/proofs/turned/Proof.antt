@@ -1,8 +1,7 @@
 -- The code tests p as `turn` does: either way both sides compute to the same, and that it is one of the kind's places is arithmetic.
-use borrow.Author.Needs.{needs}
 use borrow.Author.Tests.{lt-ltb, le-ltb}
 use native.Mathlib.Omega.{arith}
-use mathlib.Core.Path.{_≡_, sym, ap}
+use mathlib.Core.Path.{sym, ap}
 use mathlib.Core.Bool.{Bool, cond}
 use Prim.Native.Nat.{_+_, _-_}
 use Rattle.number_words.proofs.turned.Statement.{statement}

@@ -1,6 +1,6 @@
 -- `numbers::arithmetic::add_integers` meets its contract, by the laws of signs and magnitudes. Assumes nothing.
 use borrow.Author.Needs.{needs}
-use mathlib.Core.Path.{_≡_, refl, sym, ap, _∙_}
+use mathlib.Core.Path.{sym, ap, _∙_}
 use Prim.Native.Nat.{_+_, _^_, _≤_}
 use native.Mathlib.Omega.{arith}
 use Rattle.numbers.specs.Arithmetic.{checked}

@@ -1,7 +1,7 @@
 -- `numbers::arithmetic::div_integers` meets its contract: the quotient of the magnitudes truncates. Assumes nothing.
 use borrow.Author.Needs.{needs}
-use mathlib.Core.Path.{_≡_, refl, sym, ap, _∙_}
-use Rattle.numbers.specs.Scalars.{valueOf}
+use mathlib.Core.Path.{sym, _∙_}
+use Rattle.number_operands.specs.Operands.{valueOf}
 use Rattle.numbers.proofs.Sums.{quot-zero, quot-is}
 use Rattle.number_arithmetic.proofs.arithmetic.div_integers.Statement.{statement}
 use Rattle.number_arithmetic.proofs.arithmetic.div_integers.Tie as tie

@@ -1,7 +1,7 @@
 -- `numbers::arithmetic::mul_integers` meets its contract: a product that does not fit 64 bits is past every kind. Assumes nothing.
 use borrow.Author.Needs.{needs}
-use mathlib.Core.Path.{_≡_, refl, sym, ap, _∙_}
-use Prim.Native.Nat.{_*_, _^_, _≤_}
+use mathlib.Core.Path.{sym, ap, _∙_}
+use Prim.Native.Nat.{_*_}
 use lib.Ieee.{unlike}
 use Rattle.numbers.specs.Arithmetic.{checked}
 use Rattle.numbers.proofs.Sums.{product, product-zero, product-fits, product-past, positive}

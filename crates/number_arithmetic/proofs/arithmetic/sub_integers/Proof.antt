@@ -1,8 +1,8 @@
 -- `numbers::arithmetic::sub_integers` meets its contract: the sum with the other sign. Assumes nothing.
 use borrow.Author.Needs.{needs}
-use mathlib.Core.Path.{_≡_, refl, sym, ap, _∙_}
+use mathlib.Core.Path.{ap, _∙_}
 use lib.IntN.{ℤ, _+ℤ_}
-use Rattle.numbers.specs.Scalars.{valueOf}
+use Rattle.number_operands.specs.Operands.{valueOf}
 use Rattle.numbers.specs.Arithmetic.{checked}
 use Rattle.numbers.proofs.Sums.{neg-signed}
 use Rattle.number_arithmetic.proofs.arithmetic.sub_integers.Statement.{statement}

@@ -1,16 +1,17 @@
 -- `numbers::negation::negate` meets its contract: each arm is one of the definition's. Assumes nothing.
 use borrow.Author.Needs.{needs}
-use mathlib.Core.Path.{_≡_, refl, sym, ap, _∙_}
+use mathlib.Core.Path.{_≡_, sym, ap, _∙_}
 use mathlib.Core.Bool.{Bool, true, false}
 use lib.IntN.{ℤ, negℤ}
 use Rattle.numbers.specs.declared.Number.{Number}
 use Rattle.numbers.specs.declared.NumberAnswer.the-variants.{Value, WrongKind}
 use Rattle.numbers.specs.declared.IntKind.{IntKind}
 use Rattle.numbers.specs.Kinds.{isSigned, asKind, wrapping}
-use Rattle.numbers.specs.Scalars.{integer, valueOf}
+use Rattle.numbers.specs.Scalars.{integer}
+use Rattle.number_operands.specs.Operands.{valueOf}
 use Rattle.numbers.specs.Answers.{pick}
 use Rattle.numbers.specs.Arithmetic.{negateOf, negateScalar}
-use Rattle.numbers.proofs.Pairs.{stands}
+use Rattle.number_operands.proofs.Pairs.{stands}
 use Rattle.number_arithmetic.proofs.negation.negate.Statement.{statement}
 use Rattle.number_arithmetic.proofs.negation.negate.Tie as tie
 

@@ -1,9 +1,9 @@
 -- `numbers::negation::negate_wrapping` meets its contract: the subtraction from zero on the word is the negation of the number. Assumes nothing.
 use borrow.Author.Needs.{needs}
-use mathlib.Core.Path.{_≡_, refl, sym, ap, _∙_}
+use mathlib.Core.Path.{ap, _∙_}
 use lib.IntN.{negℤ}
 use Rattle.numbers.specs.Kinds.{asKind}
-use Rattle.numbers.specs.Scalars.{valueOf}
+use Rattle.number_operands.specs.Operands.{valueOf}
 use Rattle.numbers.proofs.Wrap.{wrapping-word, word-neg, neg-word}
 use Rattle.number_arithmetic.proofs.negation.negate_wrapping.Statement.{statement}
 use Rattle.number_arithmetic.proofs.negation.negate_wrapping.Tie as tie

@@ -1,0 +1,3 @@
+-- What a sign and a magnitude stands for, and two operands of one kind.
+pub mod SignMagnitudes
+pub mod Pairs
