@@ -5,7 +5,8 @@ use mathlib.Core.Logic.{_⊎_, inl, inr}
 use mathlib.Core.Bool.{Bool, true, false, not, cond}
 use Prim.Native.Nat.{ℕ, zero, suc, _+_, _-_, _*_, _/_, _%_, _^_, _<_, _≤_, compare}
 use native.Mathlib.Omega.{arith}
-use native.Mathlib.Nat.{mul-pos, zero-add, le-antisymm, le-trans, le-of-eq, lt-of-le-of-lt, lt-of-lt-of-le, lt-of-not-le, lt-irrefl, mul-assoc, mul-one, mul-comm, mul-le-mul-right, mul-le-mul-left, mul-div-cancel, le-div-iff-mul-le, div-one, add-assoc, le-of-mul-le-mul-right}
+use native.Mathlib.Nat.{mul-pos, zero-add, le-antisymm, le-trans, le-of-eq, lt-of-le-of-lt, lt-of-lt-of-le, lt-of-not-le, lt-irrefl, mul-assoc, mul-one}
+use native.Mathlib.Nat.{mul-comm, mul-le-mul-right, mul-le-mul-left, mul-div-cancel, le-div-iff-mul-le, div-one, add-assoc, le-of-mul-le-mul-right}
 use lib.Dec.{T, ltb, eqb, ltb→lt, nltb→le, lit≤, lit<}
 use mir.Facts.{no-eqb}
 use lib.Arith.{le→nltb}

@@ -3,7 +3,8 @@ use mathlib.Core.Path.{_≡_, refl, sym, ap, _∙_, subst}
 use mathlib.Core.Bool.{Bool, true, false, not, cond}
 use Prim.Native.Nat.{ℕ, zero, suc, _+_, _-_, _*_, _/_, _%_, _^_, _<_, _≤_, min}
 use native.Mathlib.Omega.{arith}
-use native.Mathlib.Nat.{le-of-lt, div-le-self, lt-of-le-of-lt, mul-assoc, mul-div-cancel, div-eq-of-lt, mod-eq-of-lt, lt-of-lt-of-le, le-trans, le-of-eq, mul-le-mul-right, mul-mod-left, le-add-right, mul-one}
+use native.Mathlib.Nat.{le-of-lt, div-le-self, lt-of-le-of-lt, mul-assoc, mul-div-cancel, div-eq-of-lt, mod-eq-of-lt, lt-of-lt-of-le, le-trans, le-of-eq}
+use native.Mathlib.Nat.{mul-le-mul-right, mul-mod-left, le-add-right, mul-one}
 use lib.Dec.{T, ltb, eqb, ltb→lt, nltb→le, lit≤, lit<}
 use lib.Pow.{pow-add, pow-pos, pow-mono, shl-lt, shr-lt}
 use mir.Facts.{no-eqb}
