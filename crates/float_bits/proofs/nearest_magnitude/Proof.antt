@@ -72,7 +72,9 @@ returns-4 c =
     )
 
 returns-5 : tie.Need-returns-5
-returns-5 c = (to-zero _ (c .before .before .before .before .pre) (c .if4 .left), search needs)
+returns-5 c =
+    let pre = c .before .before .before .before .pre in
+    (to-zero _ pre (c .if4 .left), search needs)
 
 pub nearest-magnitude-spec : {M : Type 1} → statement M
 nearest-magnitude-spec =

@@ -40,38 +40,58 @@ cast-word-requires-3 : tie.Need-cast-word-requires-3
 cast-word-requires-3 c κs = search needs
 
 returns : tie.Need-returns
-returns c = (c .cast-integer .ensures) ∙ ap (castInteger (c .before .before .before .before .before .before .args .kind)) (small-is (c .before .before .before .before .before .before .args .x)
-    (c .before .before .before .before .before .word-of-f64 .result) (search needs) (search needs) (c .before .before .before .before .before .word-of-f64 .ensures)
-    (c .before .before .q .given .0 .0) (view (toUnsigned 128 (ofBits binary64 ((c .before .before .before .before .before .word-of-f64 .result) % 2 ^
-    63))) (c .before .before .before .before .whole-part .ensures) (c .before .before .q .given .1)))
+returns c =
+    let q = c .before .before .q in
+    let whole-part = c .before .before .before .before .whole-part in
+    let word-of-f64 = c .before .before .before .before .before .word-of-f64 in
+    let args = c .before .before .before .before .before .before .args in
+    (c .cast-integer .ensures) ∙ ap (castInteger (args .kind)) (small-is (args .x)
+    (word-of-f64 .result) (search needs) (search needs) (word-of-f64 .ensures)
+    (q .given .0 .0) (view (toUnsigned 128 (ofBits binary64 ((word-of-f64 .result) % 2 ^
+    63))) (whole-part .ensures) (q .given .1)))
 
 returns-2 : tie.Need-returns-2
-returns-2 c = (c .cast-word .ensures) (toSigned 127 (c .before .before .before .before .before .before .before .args .x)) ((c .before .word-of .ensures)
-    ∙ large-word (c .before .before .before .before .before .before .before .args .x) (c .before .before .before .before .before .before .word-of-f64 .result)
-    (search needs) (search needs) (c .before .before .before .before .before .before .word-of-f64 .ensures) (c .before .before .before .q2 .given .0 .0)
-    (view (toUnsigned 128 (ofBits binary64 ((c .before .before .before .before .before .before .word-of-f64 .result) % 2 ^ 63))) (c .before .before .before .before .before .whole-part .ensures)
-    (c .before .before .before .q2 .given .1))) (large-outside (c .before .before .before .before .before .before .before .args .x) (c .before .before .before .before .before .before .word-of-f64 .result)
-    (search needs) (search needs) (c .before .before .before .before .before .before .word-of-f64 .ensures) (c .before .before .before .before .before .before .before .args .kind)
-    (c .before .before .before .q2 .given .0 .0) (view (toUnsigned 128 (ofBits binary64 ((c .before .before .before .before .before .before .word-of-f64 .result)
-    % 2 ^ 63))) (c .before .before .before .before .before .whole-part .ensures) (c .before .before .before .q2 .given .1)))
+returns-2 c =
+    let q2 = c .before .before .before .q2 in
+    let whole-part = c .before .before .before .before .before .whole-part in
+    let word-of-f64 = c .before .before .before .before .before .before .word-of-f64 in
+    let args = c .before .before .before .before .before .before .before .args in
+    (c .cast-word .ensures) (toSigned 127 (args .x)) ((c .before .word-of .ensures)
+    ∙ large-word (args .x) (word-of-f64 .result)
+    (search needs) (search needs) (word-of-f64 .ensures) (q2 .given .0 .0)
+    (view (toUnsigned 128 (ofBits binary64 ((word-of-f64 .result) % 2 ^ 63))) (whole-part .ensures)
+    (q2 .given .1))) (large-outside (args .x) (word-of-f64 .result)
+    (search needs) (search needs) (word-of-f64 .ensures) (args .kind)
+    (q2 .given .0 .0) (view (toUnsigned 128 (ofBits binary64 ((word-of-f64 .result)
+    % 2 ^ 63))) (whole-part .ensures) (q2 .given .1)))
 
 returns-3 : tie.Need-returns-3
-returns-3 c = (c .cast-word2 .ensures) (toSigned 127 (c .before .before .before .before .before .before .args .x)) (beyond-word (c .before .before .before .before .before .before .args .x)
-    (c .before .before .before .before .before .word-of-f64 .result) (search needs) (search needs) (c .before .before .before .before .before .word-of-f64 .ensures)
-    (view (toUnsigned 128 (ofBits binary64 ((c .before .before .before .before .before .word-of-f64 .result) % 2 ^ 63))) (c .before .before .before .before .whole-part .ensures)
-    (c .before .before .enum-told .given .1)) true (c .before .if1 .taken)) (beyond-outside (c .before .before .before .before .before .before .args .x)
-    (c .before .before .before .before .before .word-of-f64 .result) (search needs) (search needs) (c .before .before .before .before .before .word-of-f64 .ensures)
-    (c .before .before .before .before .before .before .args .kind) (view (toUnsigned 128 (ofBits binary64 ((c .before .before .before .before .before .word-of-f64 .result)
-    % 2 ^ 63))) (c .before .before .before .before .whole-part .ensures) (c .before .before .enum-told .given .1)) true (c .before .if1 .taken))
+returns-3 c =
+    let enum-told2 = c .before .before .enum-told in
+    let whole-part = c .before .before .before .before .whole-part in
+    let word-of-f64 = c .before .before .before .before .before .word-of-f64 in
+    let args = c .before .before .before .before .before .before .args in
+    (c .cast-word2 .ensures) (toSigned 127 (args .x)) (beyond-word (args .x)
+    (word-of-f64 .result) (search needs) (search needs) (word-of-f64 .ensures)
+    (view (toUnsigned 128 (ofBits binary64 ((word-of-f64 .result) % 2 ^ 63))) (whole-part .ensures)
+    (enum-told2 .given .1)) true (c .before .if1 .taken)) (beyond-outside (args .x)
+    (word-of-f64 .result) (search needs) (search needs) (word-of-f64 .ensures)
+    (args .kind) (view (toUnsigned 128 (ofBits binary64 ((word-of-f64 .result)
+    % 2 ^ 63))) (whole-part .ensures) (enum-told2 .given .1)) true (c .before .if1 .taken))
 
 returns-4 : tie.Need-returns-4
-returns-4 c = (c .cast-word3 .ensures) (toSigned 127 (c .before .before .before .before .before .before .args .x)) (beyond-word (c .before .before .before .before .before .before .args .x)
-    (c .before .before .before .before .before .word-of-f64 .result) (search needs) (search needs) (c .before .before .before .before .before .word-of-f64 .ensures)
-    (view (toUnsigned 128 (ofBits binary64 ((c .before .before .before .before .before .word-of-f64 .result) % 2 ^ 63))) (c .before .before .before .before .whole-part .ensures)
-    (c .before .before .enum-told .given .1)) false (c .before .if1 .left)) (beyond-outside (c .before .before .before .before .before .before .args .x)
-    (c .before .before .before .before .before .word-of-f64 .result) (search needs) (search needs) (c .before .before .before .before .before .word-of-f64 .ensures)
-    (c .before .before .before .before .before .before .args .kind) (view (toUnsigned 128 (ofBits binary64 ((c .before .before .before .before .before .word-of-f64 .result)
-    % 2 ^ 63))) (c .before .before .before .before .whole-part .ensures) (c .before .before .enum-told .given .1)) false (c .before .if1 .left))
+returns-4 c =
+    let enum-told2 = c .before .before .enum-told in
+    let whole-part = c .before .before .before .before .whole-part in
+    let word-of-f64 = c .before .before .before .before .before .word-of-f64 in
+    let args = c .before .before .before .before .before .before .args in
+    (c .cast-word3 .ensures) (toSigned 127 (args .x)) (beyond-word (args .x)
+    (word-of-f64 .result) (search needs) (search needs) (word-of-f64 .ensures)
+    (view (toUnsigned 128 (ofBits binary64 ((word-of-f64 .result) % 2 ^ 63))) (whole-part .ensures)
+    (enum-told2 .given .1)) false (c .before .if1 .left)) (beyond-outside (args .x)
+    (word-of-f64 .result) (search needs) (search needs) (word-of-f64 .ensures)
+    (args .kind) (view (toUnsigned 128 (ofBits binary64 ((word-of-f64 .result)
+    % 2 ^ 63))) (whole-part .ensures) (enum-told2 .given .1)) false (c .before .if1 .left))
 
 pub cast-truncated-spec : {M : Type 1} → statement M
 cast-truncated-spec =

@@ -17,8 +17,10 @@ word-of-f64-requires : tie.Need-word-of-f64-requires
 word-of-f64-requires c κs = search needs
 
 returns : tie.Need-returns
-returns c = ap (ofBits binary64) (c .word-of-f64 .ensures) ∙ ofBits-toBits binary64 (c .before .nearest-to-int .result) (search needs) ∙ (c .before .nearest-to-int .ensures)
-    ∙ ap (ofInt binary64) (toZ-ofZ {w = w64} {z = (c .before .before .i64-of-word .result)} (search needs) ∙ (c .before .before .i64-of-word .ensures))
+returns c =
+    let i64-of-word = c .before .before .i64-of-word in
+    ap (ofBits binary64) (c .word-of-f64 .ensures) ∙ ofBits-toBits binary64 (c .before .nearest-to-int .result) (search needs) ∙ (c .before .nearest-to-int .ensures)
+    ∙ ap (ofInt binary64) (toZ-ofZ {w = w64} {z = (i64-of-word .result)} (search needs) ∙ (i64-of-word .ensures))
 
 pub int-to-float-word-spec : {M : Type 1} → statement M
 int-to-float-word-spec =

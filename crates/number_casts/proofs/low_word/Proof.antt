@@ -31,26 +31,44 @@ enum-told : tie.Need-enum-told
 enum-told c = search needs
 
 returns : tie.Need-returns
-returns c = (c .word-of .ensures) ∙ ap (lowBits 64) (small-is (c .before .before .before .before .before .before .args .x) (c .before .before .before .before .before .word-of-f64 .result)
-    (search needs) (search needs) (c .before .before .before .before .before .word-of-f64 .ensures) (c .before .before .q .given .0 .0) (view
-    (toUnsigned 128 (ofBits binary64 ((c .before .before .before .before .before .word-of-f64 .result) % 2 ^ 63))) (c .before .before .before .before .whole-part .ensures)
-    (c .before .before .q .given .1)))
+returns c =
+    let q = c .before .before .q in
+    let whole-part = c .before .before .before .before .whole-part in
+    let word-of-f64 = c .before .before .before .before .before .word-of-f64 in
+    let args = c .before .before .before .before .before .before .args in
+    (c .word-of .ensures) ∙ ap (lowBits 64) (small-is (args .x) (word-of-f64 .result)
+    (search needs) (search needs) (word-of-f64 .ensures) (q .given .0 .0) (view
+    (toUnsigned 128 (ofBits binary64 ((word-of-f64 .result) % 2 ^ 63))) (whole-part .ensures)
+    (q .given .1)))
 
 returns-2 : tie.Need-returns-2
-returns-2 c = (c .word-of2 .ensures) ∙ large-word (c .before .before .before .before .before .before .args .x) (c .before .before .before .before .before .word-of-f64 .result)
-    (search needs) (search needs) (c .before .before .before .before .before .word-of-f64 .ensures) (c .before .before .q2 .given .0 .0) (view
-    (toUnsigned 128 (ofBits binary64 ((c .before .before .before .before .before .word-of-f64 .result) % 2 ^ 63))) (c .before .before .before .before .whole-part .ensures)
-    (c .before .before .q2 .given .1))
+returns-2 c =
+    let q2 = c .before .before .q2 in
+    let whole-part = c .before .before .before .before .whole-part in
+    let word-of-f64 = c .before .before .before .before .before .word-of-f64 in
+    let args = c .before .before .before .before .before .before .args in
+    (c .word-of2 .ensures) ∙ large-word (args .x) (word-of-f64 .result)
+    (search needs) (search needs) (word-of-f64 .ensures) (q2 .given .0 .0) (view
+    (toUnsigned 128 (ofBits binary64 ((word-of-f64 .result) % 2 ^ 63))) (whole-part .ensures)
+    (q2 .given .1))
 
 returns-3 : tie.Need-returns-3
-returns-3 c = beyond-word (c .before .before .before .before .before .args .x) (c .before .before .before .before .word-of-f64 .result) (search needs)
-    (search needs) (c .before .before .before .before .word-of-f64 .ensures) (view (toUnsigned 128 (ofBits binary64 ((c .before .before .before .before .word-of-f64 .result)
-    % 2 ^ 63))) (c .before .before .before .whole-part .ensures) (c .before .enum-told .given .1)) true (c .if1 .taken)
+returns-3 c =
+    let whole-part = c .before .before .before .whole-part in
+    let word-of-f64 = c .before .before .before .before .word-of-f64 in
+    let args = c .before .before .before .before .before .args in
+    beyond-word (args .x) (word-of-f64 .result) (search needs)
+    (search needs) (word-of-f64 .ensures) (view (toUnsigned 128 (ofBits binary64 ((word-of-f64 .result)
+    % 2 ^ 63))) (whole-part .ensures) (c .before .enum-told .given .1)) true (c .if1 .taken)
 
 returns-4 : tie.Need-returns-4
-returns-4 c = beyond-word (c .before .before .before .before .before .args .x) (c .before .before .before .before .word-of-f64 .result) (search needs)
-    (search needs) (c .before .before .before .before .word-of-f64 .ensures) (view (toUnsigned 128 (ofBits binary64 ((c .before .before .before .before .word-of-f64 .result)
-    % 2 ^ 63))) (c .before .before .before .whole-part .ensures) (c .before .enum-told .given .1)) false (c .if1 .left)
+returns-4 c =
+    let whole-part = c .before .before .before .whole-part in
+    let word-of-f64 = c .before .before .before .before .word-of-f64 in
+    let args = c .before .before .before .before .before .args in
+    beyond-word (args .x) (word-of-f64 .result) (search needs)
+    (search needs) (word-of-f64 .ensures) (view (toUnsigned 128 (ofBits binary64 ((word-of-f64 .result)
+    % 2 ^ 63))) (whole-part .ensures) (c .before .enum-told .given .1)) false (c .if1 .left)
 
 pub low-word-spec : {M : Type 1} → statement M
 low-word-spec =

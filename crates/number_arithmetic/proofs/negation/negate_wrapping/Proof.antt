@@ -18,10 +18,13 @@ number-of-word-requires : tie.Need-number-of-word-requires
 number-of-word-requires c κs = search needs
 
 returns : tie.Need-returns
-returns c = (c .number-of-word .ensures) ∙ ap (asKind (c .before .before .before .args .kind)) (wrapping-word (c .before .before .before .args .kind)
-    (negℤ (valueOf (c .before .before .before .args .x))) (word-neg (c .before .before .word-of .result) (c .before .wrapping-sub-u64 .result) (search
-    needs) (search needs) (c .before .wrapping-sub-u64 .ensures) ∙ neg-word (valueOf (c .before .before .before .args .x)) (c .before .before .word-of .result)
-    (c .before .before .word-of .ensures)))
+returns c =
+    let word-of = c .before .before .word-of in
+    let args = c .before .before .before .args in
+    (c .number-of-word .ensures) ∙ ap (asKind (args .kind)) (wrapping-word (args .kind)
+    (negℤ (valueOf (args .x))) (word-neg (word-of .result) (c .before .wrapping-sub-u64 .result) (search
+    needs) (search needs) (c .before .wrapping-sub-u64 .ensures) ∙ neg-word (valueOf (args .x)) (word-of .result)
+    (word-of .ensures)))
 
 pub negate-wrapping-spec : {M : Type 1} → statement M
 negate-wrapping-spec =

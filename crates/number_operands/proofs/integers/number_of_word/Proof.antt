@@ -73,16 +73,22 @@ i16-of-word-requires c κs = search needs
 
 returns : tie.Need-returns
 unfolding wrapping
-returns c = at (c .before .before .before .args .n) (c .before .enum-told .given .1) (ap Int (toZ-ofZ {w = w64} {z = (c .i64-of-word .result)} (search
-    needs) ∙ (c .i64-of-word .ensures) ∙ ap (twosComplement 63) (word-pos (c .before .before .before .args .n) (search needs))))
+returns c =
+    let args = c .before .before .before .args in
+    at (args .n) (c .before .enum-told .given .1) (ap Int (toZ-ofZ {w = w64} {z = (c .i64-of-word .result)} (search
+    needs) ∙ (c .i64-of-word .ensures) ∙ ap (twosComplement 63) (word-pos (args .n) (search needs))))
 
 returns-2 : tie.Need-returns-2
 unfolding wrapping
-returns-2 c = at (c .before .before .args .n) (c .enum-told2 .given .1) (ap UInt (word-pos (c .before .before .args .n) (search needs)))
+returns-2 c =
+    let args = c .before .before .args in
+    at (args .n) (c .enum-told2 .given .1) (ap UInt (word-pos (args .n) (search needs)))
 
 returns-3 : tie.Need-returns-3
 unfolding wrapping
-returns-3 c = at (c .before .before .before .args .n) (c .before .enum-told3 .given .1) (ap SInt (toZ-ofZ {w = w32} {z = (c .i32-of-word .result)}
+returns-3 c =
+    let args = c .before .before .before .args in
+    at (args .n) (c .before .enum-told3 .given .1) (ap SInt (toZ-ofZ {w = w32} {z = (c .i32-of-word .result)}
     (search needs) ∙ (c .i32-of-word .ensures)))
 
 returns-4 : tie.Need-returns-4
@@ -99,7 +105,9 @@ returns-5 c =
 
 returns-6 : tie.Need-returns-6
 unfolding wrapping
-returns-6 c = at (c .before .before .before .args .n) (c .before .enum-told6 .given .1) (ap SByte (toZ-ofZ {w = w8} {z = (c .i8-of-word .result)}
+returns-6 c =
+    let args = c .before .before .before .args in
+    at (args .n) (c .before .enum-told6 .given .1) (ap SByte (toZ-ofZ {w = w8} {z = (c .i8-of-word .result)}
     (search needs) ∙ (c .i8-of-word .ensures)))
 
 returns-7 : tie.Need-returns-7
@@ -110,7 +118,9 @@ returns-7 c =
 
 returns-8 : tie.Need-returns-8
 unfolding wrapping
-returns-8 c = at (c .before .before .before .args .n) (c .before .enum-told8 .given .1) (ap BSByte (toZ-ofZ {w = w16} {z = (c .i16-of-word .result)}
+returns-8 c =
+    let args = c .before .before .before .args in
+    at (args .n) (c .before .enum-told8 .given .1) (ap BSByte (toZ-ofZ {w = w16} {z = (c .i16-of-word .result)}
     (search needs) ∙ (c .i16-of-word .ensures)))
 
 pub number-of-word-spec : {M : Type 1} → statement M

@@ -11,8 +11,10 @@ wrapping-sub-u64-requires : tie.Need-wrapping-sub-u64-requires
 wrapping-sub-u64-requires c κs = search needs
 
 returns : tie.Need-returns
-returns c = word-neg (c .before .before .args .x .magnitude) (c .wrapping-sub-u64 .result) (search needs) (search needs) (c .wrapping-sub-u64 .ensures)
-    ∙ sym (ap (lowBits 64) (value-neg (c .before .before .args .x) (c .before .if1 .taken)))
+returns c =
+    let args = c .before .before .args in
+    word-neg (args .x .magnitude) (c .wrapping-sub-u64 .result) (search needs) (search needs) (c .wrapping-sub-u64 .ensures)
+    ∙ sym (ap (lowBits 64) (value-neg (args .x) (c .before .if1 .taken)))
 
 returns-2 : tie.Need-returns-2
 returns-2 c = word-pos (c .before .args .x .magnitude) (search needs) ∙ sym (ap (lowBits 64) (value-pos (c .before .args .x) (c .if1 .left)))

@@ -83,8 +83,10 @@ sign-magnitude-of-requires-4 : tie.Need-sign-magnitude-of-requires-4
 sign-magnitude-of-requires-4 c κs = search needs
 
 returns : tie.Need-returns
-returns c = ap (integer I64) ((c .sign-magnitude-of .ensures) ∙ toZ-ofZ {w = w64} {z = (c .before .before .a .given .0 .0)} (search needs)) ∙ sym (ap
-    scalarOf (c .before .before .a .given .1))
+returns c =
+    let a = c .before .before .a in
+    ap (integer I64) ((c .sign-magnitude-of .ensures) ∙ toZ-ofZ {w = w64} {z = (a .given .0 .0)} (search needs)) ∙ sym (ap
+    scalarOf (a .given .1))
 
 returns-2 : tie.Need-returns-2
 returns-2 c =
@@ -92,8 +94,10 @@ returns-2 c =
     ap operandScalar (c .unsigned .ensures) ∙ sym (ap scalarOf (a2 .given .1))
 
 returns-3 : tie.Need-returns-3
-returns-3 c = ap (integer I32) ((c .sign-magnitude-of2 .ensures) ∙ twice w32 (c .before .before .a3 .given .0 .0) tt (search needs)) ∙ sym (ap
-    scalarOf (c .before .before .a3 .given .1))
+returns-3 c =
+    let a3 = c .before .before .a3 in
+    ap (integer I32) ((c .sign-magnitude-of2 .ensures) ∙ twice w32 (a3 .given .0 .0) tt (search needs)) ∙ sym (ap
+    scalarOf (a3 .given .1))
 
 returns-4 : tie.Need-returns-4
 returns-4 c =
@@ -112,8 +116,10 @@ returns-7 c =
     ap operandScalar (c .unsigned3 .ensures) ∙ sym (ap scalarOf (a7 .given .1))
 
 returns-8 : tie.Need-returns-8
-returns-8 c = ap (integer I8) ((c .sign-magnitude-of3 .ensures) ∙ twice w8 (c .before .before .a8 .given .0 .0) tt (search needs)) ∙ sym (ap scalarOf
-    (c .before .before .a8 .given .1))
+returns-8 c =
+    let a8 = c .before .before .a8 in
+    ap (integer I8) ((c .sign-magnitude-of3 .ensures) ∙ twice w8 (a8 .given .0 .0) tt (search needs)) ∙ sym (ap scalarOf
+    (a8 .given .1))
 
 returns-9 : tie.Need-returns-9
 returns-9 c =
@@ -121,8 +127,10 @@ returns-9 c =
     ap operandScalar (c .unsigned4 .ensures) ∙ sym (ap scalarOf (a9 .given .1))
 
 returns-10 : tie.Need-returns-10
-returns-10 c = ap (integer I16) ((c .sign-magnitude-of4 .ensures) ∙ twice w16 (c .before .before .a10 .given .0 .0) tt (search needs)) ∙ sym (ap
-    scalarOf (c .before .before .a10 .given .1))
+returns-10 c =
+    let a10 = c .before .before .a10 in
+    ap (integer I16) ((c .sign-magnitude-of4 .ensures) ∙ twice w16 (a10 .given .0 .0) tt (search needs)) ∙ sym (ap
+    scalarOf (a10 .given .1))
 
 pub operand-of-spec : {M : Type 1} → statement M
 operand-of-spec =
