@@ -28,7 +28,8 @@ pub same : (j k : IntKind) (p q : SignMagnitude) {m n : ℕ} → m ≡ intKindCo
     sameKind (integer j (valueOf p)) (integer k (valueOf q))
 same j k p q d e h = sym (ap (λ (b : Bool). pickPair b (integers j (valueOf p) (valueOf q)) mixed) (eq-eqb (intKindCode j) (intKindCode k) (sym d ∙ h ∙ e)))
 
-pub other : (j k : IntKind) (p q : SignMagnitude) {m n : ℕ} → m ≡ intKindCode j → n ≡ intKindCode k → (m ≡ n → ⊥) → mixed ≡ sameKind (integer j (valueOf p)) (integer k (valueOf q))
+pub other : (j k : IntKind) (p q : SignMagnitude) {m n : ℕ} → m ≡ intKindCode j → n ≡ intKindCode k → (m ≡ n → ⊥)
+    → mixed ≡ sameKind (integer j (valueOf p)) (integer k (valueOf q))
 other j k p q d e h = sym (ap (λ (b : Bool). pickPair b (integers j (valueOf p) (valueOf q)) mixed) (ne-eqb (intKindCode j) (intKindCode k) (λ z. h (d ∙ z ∙ sym e))))
 
 -- a signed number, cast to an i64
