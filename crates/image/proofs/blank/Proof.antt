@@ -6,11 +6,6 @@ use lib.Seq.{length-take-le}
 use Rattle.image.proofs.Blanking.{cleared, same-slices}
 use Rattle.image.proofs.blank.Statement.{statement}
 use Rattle.image.proofs.blank.Tie as tie
-use Rattle.image.proofs.blank.Reads as reads
-use Rattle.image.proofs.blank.Lts as lts
-use Rattle.clearing.proofs.clear_u64.Reads as clear-u64-reads
-use Rattle.clearing.proofs.clear_u8.Reads as clear-u8-reads
-use Rattle.clearing.proofs.clear_usize.Reads as clear-usize-reads
 
 -- src/lib.rt:138:14
 slice-relend-prefix-clear-u8 : tie.Need-slice-relend-prefix-clear-u8

@@ -4,11 +4,6 @@ use mathlib.Core.Path.{sym, _∙_}
 use Rattle.image.proofs.Reading.{settled-refused, settled-loaded}
 use Rattle.image.proofs.load_roomy.Statement.{statement}
 use Rattle.image.proofs.load_roomy.Tie as tie
-use Rattle.image.proofs.load_roomy.Reads as reads
-use Rattle.image.proofs.load_roomy.Lts as lts
-use Rattle.image.proofs.blank.Reads as blank-reads
-use Rattle.image.proofs.is_refused.Reads as is-refused-reads
-use Rattle.image.proofs.load_lines.Reads as load-lines-reads
 
 -- src/lib.rt:166:9
 load-lines-requires : tie.Need-load-lines-requires

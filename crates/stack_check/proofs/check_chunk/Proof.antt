@@ -3,7 +3,6 @@ use borrow.Author.Needs.{needs}
 use Rattle.stack_check.proofs.check_chunk.Statement.{statement}
 use Rattle.stack_check.proofs.check_chunk.Tie as tie
 use mathlib.Core.Path.{sym}
-use Prim.Native.Nat.{_-_}
 use Rattle.stack_check.proofs.Whole.{answer-for}
 
 judge-requires : tie.Need-judge-requires

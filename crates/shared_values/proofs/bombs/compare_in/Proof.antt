@@ -1,22 +1,15 @@
 -- With slices too short or trees too deep nothing is compared, as the contract says; else the two calls of `nest` give what `equal` asks,
 -- and its answer is that for the trees.
-use mathlib.Core.Path.{_≡_, refl, sym, ap, _∙_, subst}
+use mathlib.Core.Path.{subst}
 use native.Mathlib.Omega.{arith}
-use Prim.Native.Nat.{ℕ, _+_, _*_, _≤_, _<_}
+use Prim.Native.Nat.{_*_, _≤_}
 use Rattle.shared_values.proofs.Nesting.{empty-asks, equal-asks, equal-gives, nested-at, too-nested}
 use mathlib.Core.Logic.{inl, inr}
 use Rattle.shared_values.specs.declared.Nested.{Nested}
-use Rattle.shared_values.specs.Nested.{NestedGives, NestedAt}
-use mathlib.Core.List.{List}
-use lib.ListN.{length}
+use Rattle.shared_values.specs.Nested.{NestedGives}
 use borrow.Author.Needs.{needs}
 use Rattle.shared_values.proofs.bombs.compare_in.Statement.{statement}
 use Rattle.shared_values.proofs.bombs.compare_in.Tie as tie
-use Rattle.shared_values.proofs.bombs.compare_in.Reads as reads
-use Rattle.shared_values.proofs.bombs.compare_in.Lts as lts
-use Rattle.clearing.proofs.clear_u16.Reads as clear-u16-reads
-use Rattle.shared_values.proofs.bombs.nest.Reads as nest-reads
-use Rattle.value_equality.proofs.equal.Reads as equal-reads
 
 returns : tie.Need-returns
 returns c = inl (c .if1 .taken)
