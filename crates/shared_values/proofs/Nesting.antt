@@ -244,12 +244,6 @@ nested-at leaf last depth n ws ws′ r v n′ q k = rw q at k
 pub too-nested : (leaf last : Number) (depth n : ℕ) (ws ws′ : List ℕ) (r : Nested) → n ≤ 4 * depth → r ≡ NotBuilt → NestedGives leaf last depth n ws ws′ r → 64 < depth
 too-nested leaf last depth n ws ws′ r h q k = ⊎-elim (λ (a : 4096 < n + 4 * depth). omega arith) (λ (a : 64 < depth). a) (rw q at k)
 
--- where the last leaf is as the others all are the same
-pub all-same : (n : Number) (d : ℕ) → lastTree n n d ≡ nestedTree n d
-unfolding nestedTree lastTree
-all-same n zero = refl
-all-same n (suc d) = ap (λ (t : Value). node arr (more (nestedTree n d) (more t none))) (all-same n d)
-
 -- ---- comparing and coding
 none-there : (a : ℕ) → classOf (0 ∷ []) a ≡ 0
 unfolding classOf
