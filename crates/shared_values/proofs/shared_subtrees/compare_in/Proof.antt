@@ -8,8 +8,8 @@ use mathlib.Core.Logic.{inl, inr}
 use Rattle.shared_values.specs.declared.Nested.{Nested}
 use Rattle.shared_values.specs.Nested.{NestedGives}
 use borrow.Author.Needs.{needs}
-use Rattle.shared_values.proofs.bombs.compare_in.Statement.{statement}
-use Rattle.shared_values.proofs.bombs.compare_in.Tie as tie
+use Rattle.shared_values.proofs.shared_subtrees.compare_in.Statement.{statement}
+use Rattle.shared_values.proofs.shared_subtrees.compare_in.Tie as tie
 
 returns : tie.Need-returns
 returns c = inl (c .if1 .taken)

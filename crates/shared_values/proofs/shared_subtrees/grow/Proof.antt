@@ -1,4 +1,4 @@
--- `shared_values::bombs::grow` meets its contract: one array, then the other. Assumes nothing.
+-- `shared_values::shared_subtrees::grow` meets its contract: one array, then the other. Assumes nothing.
 use mathlib.Core.Path.{subst}
 use mathlib.Core.List.{[], _∷_}
 use native.Mathlib.Omega.{arith}
@@ -11,8 +11,8 @@ use Rattle.definition.specs.Value.{arr}
 use Rattle.values.specs.declared.Built.{Built}
 use Rattle.values.specs.Building.{Builds}
 use borrow.Author.Needs.{needs}
-use Rattle.shared_values.proofs.bombs.grow.Statement.{statement}
-use Rattle.shared_values.proofs.bombs.grow.Tie as tie
+use Rattle.shared_values.proofs.shared_subtrees.grow.Statement.{statement}
+use Rattle.shared_values.proofs.shared_subtrees.grow.Tie as tie
 
 pair-requires : tie.Need-pair-requires
 pair-requires c κs = search needs

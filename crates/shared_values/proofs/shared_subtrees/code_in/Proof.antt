@@ -9,8 +9,8 @@ use Rattle.shared_values.specs.declared.Nested.{Nested}
 use Rattle.shared_values.specs.Nested.{NestedGives}
 use lib.ListN.{length}
 use borrow.Author.Needs.{needs}
-use Rattle.shared_values.proofs.bombs.code_in.Statement.{statement}
-use Rattle.shared_values.proofs.bombs.code_in.Tie as tie
+use Rattle.shared_values.proofs.shared_subtrees.code_in.Statement.{statement}
+use Rattle.shared_values.proofs.shared_subtrees.code_in.Tie as tie
 
 returns : tie.Need-returns
 returns c = not-built (inl (c .if1 .taken)) refl refl

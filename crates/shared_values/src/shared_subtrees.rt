@@ -1,5 +1,5 @@
-// Values built and compared from empty cells, with no requires: what `value_equality::equal` and `value_coding::code_value` ask is met by
-// what building gives.
+// Trees whose subtrees are shared, built and compared from empty cells, with no requires: what `value_equality::equal` and
+// `value_coding::code_value` ask is met by what building gives.
 ghost use mathlib.Core.List.{[], _∷_};
 ghost use Prim.Native.Nat.{_≤_};
 ghost use lib.ListN.{length};
