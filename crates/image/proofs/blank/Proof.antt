@@ -117,8 +117,8 @@ returns c =
     let clear-u82 = c .before .before .before .before .before .before .before .before .before .before .clear-u82 in
     let clear-usize = c .before .before .before .before .before .before .before .before .before .before .before .before .before .before .clear-usize in
     let clear-u8 = c .before .before .before .before .before .before .before .before .before .before .before .before .before .before .before .before .before .before .clear-u8 in
-    let start = c .before .before .before .before .before .before .before .before .before .before .before .before .before .before .before .before .before .before .before .before .before .before .before .before .before
-    in
+    let start = c .before .before .before .before .before .before .before .before .before .before .before .before .before .before .before .before
+    .before .before .before .before .before .before .before .before .before in
     same-slices
     (let done = clear-u8 in cleared 32768 (start .args .bytes .now) (done .last .0) (done .kept .0) (start .pre .room-bytes) (done .ensures))
     (let done = clear-usize in cleared 256 (start .args .ends .now) (done .last .0) (done .kept .0) (start .pre .room-ends) (done .ensures))

@@ -42,8 +42,8 @@ returns : tie.Need-returns
 returns c =
     let blank2 = c .before .before .before .before .before .before .before .before .before .before .blank in
     let test = c .before .before .before .before .before .before .before .before .before .before .before .before .before .before .before .before in
-    let read = c .before .before .before .before .before .before .before .before .before .before .before .before .before .before .before .before .before .before .before .before .before .before .before .before .before .before .before .before .load-lines
-    in
+    let read = c .before .before .before .before .before .before .before .before .before .before .before .before .before .before .before .before
+    .before .before .before .before .before .before .before .before .before .before .before .before .load-lines in
     settled-refused _ _ _ _ (read .result) (read .ensures) (sym (test .before .is-refused .ensures) ∙ test .if1 .taken) (blank2 .ensures)
 
 -- src/lib.rt:155:1

@@ -55,8 +55,8 @@ equal-requires c κs =
     in
     let if2 = c .before .before .before .before .before .before .before .before .before .before .before .before .before .before .before .before .before .before .before .before .before .before .if2
     in
-    let args = c .before .before .before .before .before .before .before .before .before .before .before .before .before .before .before .before .before .before .before .before .before .before .before .before .before .before .args
-    in
+    let args = c .before .before .before .before .before .before .before .before .before .before .before .before .before .before .before .before
+    .before .before .before .before .before .before .before .before .before .before .args in
     equal-asks (args .left) (args .left-last) (args .right) (args .right-last) (args .depth) (a2 .given .0 .1 .0) (b .given .0 .1 .0) (args .cells .now)
     (nest3 .last .0) (nest2 .last .0) (clear-u16 .last .0) (a2 .given .0 .0) (b .given .0 .0) (clear-u16 .ensures) (omega (
       arith,
@@ -85,8 +85,8 @@ returns-3 c =
     let nest2 = c .before .before .before .before .before .before .before .before .before .before .before .before .nest2 in
     let a2 = c .before .before .before .before .before .before .before .before .before .before .before .before .before .before .before .a in
     let nest3 = c .before .before .before .before .before .before .before .before .before .before .before .before .before .before .before .before .before .before .before .nest in
-    let args = c .before .before .before .before .before .before .before .before .before .before .before .before .before .before .before .before .before .before .before .before .before .before .before .before .before .before .before .before .before .args
-    in
+    let args = c .before .before .before .before .before .before .before .before .before .before .before .before .before .before .before .before
+    .before .before .before .before .before .before .before .before .before .before .before .before .before .args in
     equal-gives (args .left) (args .left-last) (args .right) (args .right-last) (args .depth) (a2 .given .0 .1 .0) (b .given .0 .1 .0) (args .cells .now)
     (nest3 .last .0) (nest2 .last .0) _ (a2 .given .0 .0) (b .given .0 .0) (equal2 .result) (subst (λ (r : Nested). NestedGives (args .left) (args .left-last)
     (args .depth) 0 (args .cells .now) (nest3 .last .0) r) (a2 .given .1) (nest3 .ensures)) (subst (λ (r : Nested). NestedGives (args .right)
