@@ -1,17 +1,16 @@
 -- From the pieces to the line, and from the answer to the definition's.
 use mathlib.Core.Path.{_≡_, subst}
 use mathlib.Core.Logic.{_↔_}
-use mathlib.Core.Bool.{false, _||_}
+use mathlib.Core.Bool.{false}
 use mathlib.Core.List.{List, [], _∷_}
-use Prim.Native.Nat.{ℕ, _+_, _≤_, _<_}
+use Prim.Native.Nat.{ℕ, _≤_, _<_}
 use native.Mathlib.Omega.{arith}
 use borrow.Author.Tests.{le-ltb}
-use lib.Dec.{ltb}
 use lib.ListN.{length, take}
 use Rattle.definition.specs.Lines.{Load}
 use Rattle.definition.specs.Answers as definition
 use Rattle.definition.specs.Runner.{ascii, decimal, padded, words}
-use Rattle.image.specs.Answer.{numberOf, short}
+use Rattle.image.specs.Answer.{numberOf}
 use Rattle.image_records.specs.declared.Reason as refusal
 use Rattle.stack_check.specs.Answer.{reasonNumber}
 use Rattle.stack_check.specs.declared.Reason as fault

@@ -3,7 +3,7 @@
 use mathlib.Core.List.{List, [], _∷_}
 use Prim.Native.Nat.{ℕ}
 use Rattle.definition.specs.CheckAnswer.{Checked, pass, fails}
-use Rattle.definition.specs.Answers.{CheckAnswer, refusal, checked, DecidesBytes}
+use Rattle.definition.specs.Answers.{CheckAnswer, checked, DecidesBytes}
 use Rattle.definition.specs.Runner.{ascii, decimal, padded, words}
 use Rattle.line_output.specs.Puts.{Puts}
 

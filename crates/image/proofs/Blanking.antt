@@ -1,12 +1,12 @@
 -- Work slices that are zero up to their named lengths, and as they were behind them.
 use mathlib.Core.Path.{_≡_, sym, ap, _∙_}
 use mathlib.Core.List.{List, _++_}
-use Prim.Native.Nat.{ℕ, _≤_, _<_}
+use Prim.Native.Nat.{ℕ, _≤_}
 use native.Mathlib.Omega.{arith}
-use lib.ListN.{length, getD, take, drop, replicate, length-replicate, getD-replicate}
+use lib.ListN.{length, take, drop, replicate, length-replicate, getD-replicate}
 use lib.Seq.{drop-at, length-take-le, ext-getD}
 use Rattle.clearing.specs.Zero.{AllZero}
-use Rattle.image.specs.Answer.{Slices, slices, Behind, BehindMost, zeroTo, blanked}
+use Rattle.image.specs.Answer.{Slices, slices, BehindMost, zeroTo, blanked}
 
 -- the first n elements were cleared
 pub cleared : (n : ℕ) (l out : List ℕ) → length out ≡ length (take n l) → n ≤ length l → AllZero out → out ++ drop n l ≡ zeroTo n l

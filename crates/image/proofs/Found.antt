@@ -271,11 +271,6 @@ module _ (m : Slices) (c : ℕ) (d : Chunk) (h : HeldChunk m c d) where
   pub code-length : code-to - code-from ≡ length (d .code)
   code-length = sym (cut-length code-from code-to (m .bytes) (d .code) (h .code-is) (h .code-rises) (h .code-within))
 
-  pub kind-at : (k : ℕ) → k < length (d .constants) → getD (m .kinds) (constants-from + k) 0 ≡ getD (d .constants) k noConstant .kind
-  kind-at k l =
-      let z = constant-count in
-      sym (cut-at constants-from constants-to (m .kinds) k (omega arith)) ∙ ap (λ (x : List ℕ). getD x k 0) (h .kinds-are) ∙ List·getD-map kindOf (d .constants) k noConstant
-
   pub payload-at : (k : ℕ) → k < length (d .constants) → getD (m .payloads) (constants-from + k) 0 ≡ getD (d .constants) k noConstant .payload
   payload-at k l =
       let z = constant-count in

@@ -2,7 +2,7 @@
 use mathlib.Core.Path.{_≡_, refl, sym, ap, _∙_}
 use mathlib.Core.Bool.{Bool, true, false, cond, _&&_}
 use mathlib.Core.List.{List, [], _∷_, _++_, map, append-assoc, append-nil}
-use Prim.Native.Nat.{ℕ, _+_, _-_, _<_}
+use Prim.Native.Nat.{ℕ, _+_, _<_}
 use native.Mathlib.Omega.{arith}
 use borrow.Author.Tests.{lt-ltb, le-ltb, ltb-true, ltb-false}
 use lib.Dec.{ltb, leb, eqb}
@@ -111,7 +111,8 @@ encode p im =
     }
 
 state-eq :
-    {q q′ : Part} {b c d e f g h i b′ c′ d′ e′ f′ g′ h′ i′ : ℕ} → q ≡ q′ → b ≡ b′ → c ≡ c′ → d ≡ d′ → e ≡ e′ → f ≡ f′ → g ≡ g′ → h ≡ h′ → i ≡ i′
+    {q q′ : Part} {b c d e f g h i b′ c′ d′ e′ f′ g′ h′ i′ : ℕ}
+    → q ≡ q′ → b ≡ b′ → c ≡ c′ → d ≡ d′ → e ≡ e′ → f ≡ f′ → g ≡ g′ → h ≡ h′ → i ≡ i′
     → _≡_ {A = State} (record { part = q; texts = b; chunks = c; own = d; code = e; named = f; constants = g; bytes = h; rows = i })
     (record { part = q′; texts = b′; chunks = c′; own = d′; code = e′; named = f′; constants = g′; bytes = h′; rows = i′ })
 state-eq p q r s t u v w x = rw (p, q, r, s, t, u, v, w, x)
@@ -155,7 +156,10 @@ module _ (a n : ℕ) where
   rows-snoc :
       (nc nb : ℕ) (cs : List Chunk)
       → rowsFrom nc nb (cs ++ (opened a n ∷ [])) ≡ rowsFrom nc nb cs ++ (a ∷ n ∷ (nc + length (constantsOf cs)) ∷ (nb + length (codeIn cs)) ∷ [])
-  rows-snoc nc nb [] = let z : nc ≡ nc + 0 = omega arith in let y : nb ≡ nb + 0 = omega arith in ap (λ (p : ℕ). a ∷ n ∷ p ∷ nb ∷ []) z ∙ ap (λ (p : ℕ). a ∷ n ∷ (nc + 0) ∷ p ∷ []) y
+  rows-snoc nc nb [] =
+      let z : nc ≡ nc + 0 = omega arith in
+      let y : nb ≡ nb + 0 = omega arith in
+      ap (λ (p : ℕ). a ∷ n ∷ p ∷ nb ∷ []) z ∙ ap (λ (p : ℕ). a ∷ n ∷ (nc + 0) ∷ p ∷ []) y
   rows-snoc nc nb (c ∷ cs) =
       let z : nc + length (c .constants) + length (constantsOf cs) ≡ nc + length (c .constants ++ constantsOf cs) = rw length-append (omega arith) in
       let y : nb + length (c .code) + length (codeIn cs) ≡ nb + length (c .code ++ codeIn cs) = rw length-append (omega arith) in

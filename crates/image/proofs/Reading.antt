@@ -321,9 +321,6 @@ module _ (B out post : List ℕ) (from n : ℕ) (small : from ≤ length B) (roo
       let z : from + n - from ≡ n = omega arith in
       rw (z, drop-at (take from B) (out ++ post) from (length-take-le from B small)) (take-append-le n out post room)
 
-  pub fields-length : length (take (from + n - from) (drop from (take from B ++ (out ++ post)))) ≡ n
-  fields-length = ap length fields-are ∙ length-take-le n out room
-
 -- behind half as many bytes as a line has digits, the slice is as it was
 bytes-behind :
     (B out out′ post : List ℕ) (from n : ℕ) → from ≤ length B → B ≡ take from B ++ (out ++ post) → length out′ ≡ length out → n ≤ length out

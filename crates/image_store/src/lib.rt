@@ -1,11 +1,9 @@
 // What a line's record leaves in the work slices, and what comes after it.
 // These functions are for `image` alone. What they require, its loop over the lines keeps.
 ghost use mathlib.Core.Path.{_≡_};
-ghost use mathlib.Core.Bool.{cond};
 ghost use mathlib.Core.List.{[], _∷_, _++_};
 ghost use Prim.Native.Nat.{_+_, _≤_};
 ghost use lib.ListN.{length, take, drop};
-ghost use lib.Dec.{eqb};
 ghost use Rattle.image_store.specs.Stored.{namedBy, partAfter, afterText, afterChunk, afterConstant, afterCode, afterEnd, CanAccept, Accepted, finishOf};
 use image_records::Part;
 use image_records::Reason;

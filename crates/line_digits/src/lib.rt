@@ -1,7 +1,7 @@
 // Digits and lines: where a line ends, and the bytes that its digits are.
 // These functions are for `image` alone. What they require, its loop over the lines keeps.
 ghost use mathlib.Core.Path.{_≡_};
-ghost use Prim.Native.Nat.{ℕ, _+_, _*_, _≤_, _<_};
+ghost use Prim.Native.Nat.{ℕ, _*_, _≤_, _<_};
 ghost use lib.ListN.{length, getD, drop};
 ghost use Rattle.definition.specs.Lines.{digit, lineOf};
 ghost use Rattle.line_digits.specs.Fields.{readOf, ReadFits, written, over};

@@ -1,13 +1,11 @@
 -- Pieces behind one another, and the digits of a number.
 use mathlib.Core.Path.{_≡_, refl, sym, ap, subst, _∙_}
-use mathlib.Core.Bool.{Bool, true, false}
 use mathlib.Core.List.{List, [], _∷_, _++_, append-assoc, append-nil}
 use Prim.Native.Nat.{ℕ, zero, suc, _+_, _*_, _-_, _/_, _%_, _^_, _≤_, _<_}
 use native.Mathlib.Nat.{not-suc-le-zero, pow-succ'}
 use native.Mathlib.Omega.{arith}
 use native.Mathlib.Decide.{decLt}
 use borrow.Author.Tests.{lt-ltb, le-ltb}
-use lib.Dec.{ltb}
 use lib.ListN.{length, getD, set, take, drop, replicate, length-append, length-drop, take-append-drop}
 use lib.Seq.{take-suc, take-at, drop-at, drop-drop, take-length, paste, paste-suc, sets-eq, length-take-le}
 use Rattle.definition.specs.Runner.{digitsTo, decimal, padded, hexDigit, hex}

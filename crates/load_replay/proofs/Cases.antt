@@ -1,8 +1,7 @@
 -- The marks and the ends of images, by cases.
-use mathlib.Core.Path.{_≡_, refl}
+use mathlib.Core.Path.{_≡_}
 use Prim.Native.Nat.{ℕ, _-_, _≤_, _<_}
 use borrow.Author.Tests.{eq-eqb, ne-eqb, lt-ltb, le-ltb}
-use lib.Dec.{eqb, ltb}
 use Rattle.load_replay.specs.Marks.{markOf, endOf}
 
 pub end-whole : (mark from at : ℕ) → (mark ≡ 2 → ⊥) → at ≡ endOf mark from at

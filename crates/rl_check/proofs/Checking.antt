@@ -1,13 +1,12 @@
 -- From what `load` and `check_image` ensure to what `check` ensures.
-use mathlib.Core.Path.{_≡_, refl, sym, ap, _∙_}
-use mathlib.Core.Bool.{Bool, true, false, cond, _||_}
+use mathlib.Core.Path.{_≡_, refl, sym, _∙_}
+use mathlib.Core.Bool.{Bool, true, false}
 use mathlib.Core.Logic.{_⊎_, inl, inr}
 use mathlib.Core.List.{List}
 use Prim.Native.Nat.{ℕ, _≤_, _<_}
 use native.Mathlib.Omega.{arith}
 use borrow.Author.Tests.{lt-ltb, le-ltb}
 use lib.ListN.{length}
-use lib.Dec.{ltb}
 use Rattle.definition.specs.Image.{Chunk, Image}
 use Rattle.definition.specs.Lines.{image, refused, loadImage}
 use Rattle.definition.specs.Answers.{AnswersLoaded}

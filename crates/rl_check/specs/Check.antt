@@ -6,7 +6,7 @@ use mathlib.Core.List.{List}
 use Prim.Native.Nat.{ℕ, _≤_}
 use lib.ListN.{length}
 use Rattle.definition.specs.Image.{Image}
-use Rattle.definition.specs.Lines.{Load, image, loadImage}
+use Rattle.definition.specs.Lines.{image, loadImage}
 use Rattle.definition.specs.Loaded.{ImageKept}
 use Rattle.definition.specs.Trees.{trees}
 use Rattle.definition.specs.Run.{run}

@@ -2,7 +2,7 @@
 use mathlib.Core.Path.{_≡_, refl, ap, sym, _∙_, subst}
 use mathlib.Core.Logic.{_↔_, _⊎_, inl, inr, ⊎-elim}
 use mathlib.Core.Bool.{Bool, true, false, cond}
-use mathlib.Core.List.{List, [], _∷_, _++_, map}
+use mathlib.Core.List.{List, [], _∷_, _++_}
 use Prim.Native.Nat.{ℕ, zero, suc, _+_, _*_, _<_, _≤_, max}
 use native.Mathlib.Numerals.{add-one}
 use native.Mathlib.Omega.{arith}
@@ -11,8 +11,8 @@ use lib.Dec.{leb, ltb}
 use lib.ListN.{length, getD, take, drop, set, length-append}
 use Rattle.clearing.specs.Zero.{AllZero}
 use Rattle.numbers.specs.declared.Number.{Number}
-use Rattle.definition.specs.Image.{Image, chunkAt, textAt}
-use Rattle.definition.specs.Value.{Value, Values, node, none, more, values, num, arr, nest, nestOver, nests, nestEmpty}
+use Rattle.definition.specs.Image.{chunkAt, textAt}
+use Rattle.definition.specs.Value.{Value, node, none, more, num, arr, nest, nestOver, nests}
 use Rattle.definition.specs.Trees.{trees}
 use Rattle.definition.specs.Equality.{Equal, equal}
 use Rattle.definition.specs.Coding.{coded}
@@ -22,13 +22,12 @@ use Rattle.values.specs.declared.VmValue.the-variants.{Null, Num, Arr}
 use Rattle.values.specs.declared.Built.{Built}
 use Rattle.values.specs.declared.Built.the-variants as built
 use Rattle.value_coding.specs.declared.Coded.{Coded}
-use Rattle.value_coding.specs.declared.Coded.the-variants.{TooLong}
-use Rattle.values.specs.Words.{pairs, valueAt, Fit}
-use Rattle.values.specs.Cells.{treeOver, cellsOf, treesOf, treeOf, Placed, WellFormed, Held}
+use Rattle.values.specs.Words.{pairs, Fit}
+use Rattle.values.specs.Cells.{treeOver, cellsOf, treesOf, treeOf, Placed, Held}
 use Rattle.values.specs.Flat.{blockOf, deepest, blockBehind}
-use Rattle.values.specs.Building.{builtOf, pickBuilt, Builds, BuiltOn, CellsKept, RoomKept, FitBuilt}
+use Rattle.values.specs.Building.{builtOf, pickBuilt, Builds, BuiltOn}
 use Rattle.value_equality.specs.Classes.{classOf, ClassTables}
-use Rattle.value_equality.specs.Equality.{Memo, Down, EqualAsks, EqualGives}
+use Rattle.value_equality.specs.Equality.{EqualAsks, EqualGives}
 use Rattle.value_coding.specs.Coding.{codeOf, codedAnswer, codedOut, CodeGives}
 use Rattle.values.proofs.InCells.{cells-length}
 use Rattle.value_equality.proofs.Memos.{memo-none, down-none}
@@ -37,7 +36,7 @@ use Rattle.shared_values.specs.declared.Grown.{Grown}
 use Rattle.shared_values.specs.declared.Grown.the-variants as growth
 use Rattle.shared_values.specs.declared.Nested.{Nested}
 use Rattle.shared_values.specs.declared.Nested.the-variants.{At, NotBuilt}
-use Rattle.shared_values.specs.Nested.{nestedTree, lastTree, noImage, NestedAsks, Stays, Grows, GrownGives, NestedAt, NestedGives, CodedGives, done, not-built}
+use Rattle.shared_values.specs.Nested.{nestedTree, lastTree, noImage, NestedAsks, Stays, Grows, GrownGives, NestedAt, NestedGives, CodedGives, done}
 
 -- two values stored in a slice of four zeros
 pub pair-is : (p q : List ℕ) (x y : VmValue) → pairs p ≡ set (pairs (0 ∷ 0 ∷ 0 ∷ 0 ∷ [])) 0 x → pairs q ≡ set (pairs p) 1 y → take 2 (drop 0 (pairs q)) ≡ x ∷ y ∷ []
@@ -244,12 +243,6 @@ nested-at leaf last depth n ws ws′ r v n′ q k = rw q at k
 -- a tree behind at most as many cells as it takes is not built only where it nests over 64
 pub too-nested : (leaf last : Number) (depth n : ℕ) (ws ws′ : List ℕ) (r : Nested) → n ≤ 4 * depth → r ≡ NotBuilt → NestedGives leaf last depth n ws ws′ r → 64 < depth
 too-nested leaf last depth n ws ws′ r h q k = ⊎-elim (λ (a : 4096 < n + 4 * depth). omega arith) (λ (a : 64 < depth). a) (rw q at k)
-
--- where the last leaf is as the others all are the same
-pub all-same : (n : Number) (d : ℕ) → lastTree n n d ≡ nestedTree n d
-unfolding nestedTree lastTree
-all-same n zero = refl
-all-same n (suc d) = ap (λ (t : Value). node arr (more (nestedTree n d) (more t none))) (all-same n d)
 
 -- ---- comparing and coding
 none-there : (a : ℕ) → classOf (0 ∷ []) a ≡ 0

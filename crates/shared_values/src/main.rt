@@ -1,11 +1,11 @@
 // Arrays of two nested 64 deep: 256 cells whose tree has 2^64 leaves, all the same number or all but one. Each line is answered at once,
 // because equality looks at no pair of cells twice and coding stops where the slice is full.
-mod bombs;
+mod shared_subtrees;
 
-pub use bombs::code_nested;
-pub use bombs::compare_nested;
 use libc::STDOUT_FILENO;
 use numbers::Number;
+pub use shared_subtrees::code_nested;
+pub use shared_subtrees::compare_nested;
 use value_coding::Coded;
 use values::VmValue;
 

@@ -77,7 +77,8 @@ module _ {c e : Chunk} (A : Alike c e) where
         ends = λ p q i r S a m. G .ends p q i (reach-alike B r) (sound-alike B S) a (rw l m);
       }
 
-clean-alike : {c e : Chunk} → Alike c e → ((p : ℕ) → rules.Reach c p → p < length (c .code) → fault c p ≡ 0) → (p : ℕ) → rules.Reach e p → p < length (e .code) → fault e p ≡ 0
+clean-alike : {c e : Chunk} → Alike c e → ((p : ℕ) → rules.Reach c p → p < length (c .code) → fault c p ≡ 0) → (p : ℕ) → rules.Reach e p
+    → p < length (e .code) → fault e p ≡ 0
 clean-alike A f p r l = sym (fault-alike A p) ∙ f p (reach-alike (alike-back A) r) (rw (length-alike A) l)
 
 passes-alike : {c e : Chunk} → Alike c e → rules.ChunkPasses c → rules.ChunkPasses e

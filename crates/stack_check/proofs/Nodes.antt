@@ -1,19 +1,19 @@
 -- A node is the definition's instruction. Assumes nothing.
 use mathlib.Core.Path.{_≡_, refl, sym, _∙_, ap}
 use mathlib.Core.List.{List, [], _∷_, map}
-use mathlib.Core.Logic.{_⊎_, ⊎-elim}
+use mathlib.Core.Logic.{⊎-elim}
 use mathlib.Core.Option.{Option, none, some}
 use Prim.Native.Nat.{ℕ, zero, suc, _+_, _*_, _-_, _^_, _≤_, _<_}
 use native.Mathlib.Omega.{arith}
 use borrow.Author.Tests.{le-leb}
-use lib.IntN.{ℤ, pos, negsuc, _+ℤ_, _-ℤ_}
+use lib.IntN.{ℤ, pos, _-ℤ_}
 use Rattle.definition.specs.Image.{Chunk}
 use Rattle.definition.specs.Table as table
 use Rattle.definition.specs.Table.{added}
 use Rattle.definition.specs.Decode as definition
 use Rattle.definition.proofs.ChangeOfHeight.{rise, fall, added-by, added-sum, lessened, need-is, falls-covered}
 use Rattle.chunk.specs.Table.{flowOf, flowNumber, flowAt}
-use Rattle.chunk.specs.Decode.{held, instrOf}
+use Rattle.chunk.specs.Decode.{held}
 use Rattle.chunk.specs.Fault.{kindsOf}
 use Rattle.chunk.specs.declared.Flow.{Flow}
 use Rattle.chunk.specs.declared.Flow.the-variants.{Straight, Opens, Closes, Forward, Backward, Forks, Ends, MayEnd}

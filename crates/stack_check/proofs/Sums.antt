@@ -1,6 +1,6 @@
 -- Changes of height as the machine computes them, through the bits of a signed number. Assumes nothing.
 use mathlib.Core.Path.{_≡_, sym, _∙_, ap, subst}
-use Prim.Native.Nat.{ℕ, _+_, _<_, _≤_, _^_}
+use Prim.Native.Nat.{ℕ, _<_, _≤_, _^_}
 use native.Mathlib.Omega.{arith}
 use lib.Dec.{T}
 use lib.IntN.{ℤ, pos, negsuc, natAbs, _+ℤ_, _-ℤ_}

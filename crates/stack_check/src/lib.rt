@@ -1,8 +1,7 @@
 // The stack check of one chunk and of an image (document 01, "The stack check").
 ghost use mathlib.Core.Path.{_≡_};
-ghost use mathlib.Core.List.{List};
-ghost use Prim.Native.Nat.{ℕ, _+_, _-_, _*_, _^_, _<_, _≤_};
-ghost use lib.ListN.{length, getD};
+ghost use Prim.Native.Nat.{ℕ, _+_, _-_, _^_, _<_};
+ghost use lib.ListN.{length};
 ghost use Rattle.definition.specs.Decode.{fault};
 ghost use Rattle.chunk.specs.Fault.{staticNumber};
 ghost use Rattle.stack_check.specs.Node.{turnOf, firstOf, secondOf, Drawn, NodeIs, Here, chunkOf};

@@ -6,11 +6,6 @@ use lib.Seq.{length-take-le}
 use Rattle.image.proofs.Blanking.{cleared, same-slices}
 use Rattle.image.proofs.blank.Statement.{statement}
 use Rattle.image.proofs.blank.Tie as tie
-use Rattle.image.proofs.blank.Reads as reads
-use Rattle.image.proofs.blank.Lts as lts
-use Rattle.clearing.proofs.clear_u64.Reads as clear-u64-reads
-use Rattle.clearing.proofs.clear_u8.Reads as clear-u8-reads
-use Rattle.clearing.proofs.clear_usize.Reads as clear-usize-reads
 
 -- src/lib.rt:138:14
 slice-relend-prefix-clear-u8 : tie.Need-slice-relend-prefix-clear-u8
@@ -122,8 +117,8 @@ returns c =
     let clear-u82 = c .before .before .before .before .before .before .before .before .before .before .clear-u82 in
     let clear-usize = c .before .before .before .before .before .before .before .before .before .before .before .before .before .before .clear-usize in
     let clear-u8 = c .before .before .before .before .before .before .before .before .before .before .before .before .before .before .before .before .before .before .clear-u8 in
-    let start = c .before .before .before .before .before .before .before .before .before .before .before .before .before .before .before .before .before .before .before .before .before .before .before .before .before
-    in
+    let start = c .before .before .before .before .before .before .before .before .before .before .before .before .before .before .before .before
+    .before .before .before .before .before .before .before .before .before in
     same-slices
     (let done = clear-u8 in cleared 32768 (start .args .bytes .now) (done .last .0) (done .kept .0) (start .pre .room-bytes) (done .ensures))
     (let done = clear-usize in cleared 256 (start .args .ends .now) (done .last .0) (done .kept .0) (start .pre .room-ends) (done .ensures))

@@ -45,8 +45,8 @@ add-k : tie.Need-add-k Inv-loop μ-loop
 add-k c =
     let loop = c .before .before .before .before .before .before .before .before .before .before .before .before .before .before .before .before .before .before .before .before .loop
     in
-    let pre = c .before .before .before .before .before .before .before .before .before .before .before .before .before .before .before .before .before .before .before .before .before .before .before .before .before .before .before .pre
-    in
+    let pre = c .before .before .before .before .before .before .before .before .before .before .before .before .before .before .before .before
+    .before .before .before .before .before .before .before .before .before .before .before .pre in
     omega (arith, (loop .inv .5 .counted), (loop .inv .5 .within), (pre .0))
 
 loop-less : tie.Need-loop-less Inv-loop μ-loop
@@ -54,8 +54,8 @@ loop-less c =
     let take-line = c .before .before .before .before .before .before .before .before .before .before .before .before .before .take-line in
     let loop = c .before .before .before .before .before .before .before .before .before .before .before .before .before .before .before .before .before .before .before .before .loop
     in
-    let args = c .before .before .before .before .before .before .before .before .before .before .before .before .before .before .before .before .before .before .before .before .before .before .before .before .before .before .before .args
-    in
+    let args = c .before .before .before .before .before .before .before .before .before .before .before .before .before .before .before .before
+    .before .before .before .before .before .before .before .before .before .before .before .args in
     next-less (args .image .now) (slices (args .bytes .now) (args .ends .now) (args .kinds .now) (args .payloads .now) (args .table .now)) (slices
     (loop .bytes) (loop .ends) (loop .kinds) (loop .payloads) (loop .table)) (slices (take-line .last .1 .0) (take-line .last .1 .1 .0) (take-line .last .1 .1 .1 .0)
     (take-line .last .1 .1 .1 .1 .0) (take-line .last .1 .1 .1 .1 .1 .0)) (loop .s) (loop .at) (loop .k) (take-line .result) (loop .inv .5)
@@ -66,8 +66,8 @@ loop-again c =
     let take-line = c .before .before .before .before .before .before .before .before .before .before .before .before .before .take-line in
     let loop = c .before .before .before .before .before .before .before .before .before .before .before .before .before .before .before .before .before .before .before .before .loop
     in
-    let args = c .before .before .before .before .before .before .before .before .before .before .before .before .before .before .before .before .before .before .before .before .before .before .before .before .before .before .before .args
-    in (
+    let args = c .before .before .before .before .before .before .before .before .before .before .before .before .before .before .before .before
+    .before .before .before .before .before .before .before .before .before .before .before .args in (
       (take-line .kept .1 .0) ∙ (loop .inv .0),
       (take-line .kept .1 .1 .0) ∙ (loop .inv .1),
       (take-line .kept .1 .1 .1 .0) ∙ (loop .inv .2),
@@ -130,8 +130,8 @@ returns c =
     let take-line = c .before .before .before .before .before .before .before .before .before .before .before .before .before .take-line in
     let loop = c .before .before .before .before .before .before .before .before .before .before .before .before .before .before .before .before .before .before .before .before .loop
     in
-    let args = c .before .before .before .before .before .before .before .before .before .before .before .before .before .before .before .before .before .before .before .before .before .before .before .before .before .before .before .args
-    in
+    let args = c .before .before .before .before .before .before .before .before .before .before .before .before .before .before .before .before
+    .before .before .before .before .before .before .before .before .before .before .before .args in
     reading-ready (args .image .now) (slices (args .bytes .now) (args .ends .now) (args .kinds .now) (args .payloads .now) (args .table .now)) (slices
     (loop .bytes) (loop .ends) (loop .kinds) (loop .payloads) (loop .table)) (slices (take-line .last .1 .0) (take-line .last .1 .1 .0) (take-line .last .1 .1 .1 .0)
     (take-line .last .1 .1 .1 .1 .0) (take-line .last .1 .1 .1 .1 .1 .0)) (loop .s) (loop .at) (loop .k) (take-line .result) (loop .inv .5)
@@ -180,10 +180,10 @@ returns-2 c =
     let take-line = c .before .before .before .before .before .before .before .before .before .before .before .before .before .take-line in
     let loop = c .before .before .before .before .before .before .before .before .before .before .before .before .before .before .before .before .before .before .before .before .loop
     in
-    let args = c .before .before .before .before .before .before .before .before .before .before .before .before .before .before .before .before .before .before .before .before .before .before .before .before .before .before .before .args
-    in
-    let pre = c .before .before .before .before .before .before .before .before .before .before .before .before .before .before .before .before .before .before .before .before .before .before .before .before .before .before .before .pre
-    in
+    let args = c .before .before .before .before .before .before .before .before .before .before .before .before .before .before .before .before
+    .before .before .before .before .before .before .before .before .before .before .before .args in
+    let pre = c .before .before .before .before .before .before .before .before .before .before .before .before .before .before .before .before
+    .before .before .before .before .before .before .before .before .before .before .before .pre in
     reading-stop (args .image .now) (slices (args .bytes .now) (args .ends .now) (args .kinds .now) (args .payloads .now) (args .table .now)) (slices
     (loop .bytes) (loop .ends) (loop .kinds) (loop .payloads) (loop .table)) (slices (take-line .last .1 .0) (take-line .last .1 .1 .0) (take-line .last .1 .1 .1 .0)
     (take-line .last .1 .1 .1 .1 .0) (take-line .last .1 .1 .1 .1 .1 .0)) (loop .s) (loop .at) (loop .k) (take-line .result) (loop .inv .5)

@@ -4,11 +4,6 @@ use mathlib.Core.Path.{sym, _∙_}
 use Rattle.image.proofs.Reading.{settled-refused, settled-loaded}
 use Rattle.image.proofs.load_roomy.Statement.{statement}
 use Rattle.image.proofs.load_roomy.Tie as tie
-use Rattle.image.proofs.load_roomy.Reads as reads
-use Rattle.image.proofs.load_roomy.Lts as lts
-use Rattle.image.proofs.blank.Reads as blank-reads
-use Rattle.image.proofs.is_refused.Reads as is-refused-reads
-use Rattle.image.proofs.load_lines.Reads as load-lines-reads
 
 -- src/lib.rt:166:9
 load-lines-requires : tie.Need-load-lines-requires
@@ -47,8 +42,8 @@ returns : tie.Need-returns
 returns c =
     let blank2 = c .before .before .before .before .before .before .before .before .before .before .blank in
     let test = c .before .before .before .before .before .before .before .before .before .before .before .before .before .before .before .before in
-    let read = c .before .before .before .before .before .before .before .before .before .before .before .before .before .before .before .before .before .before .before .before .before .before .before .before .before .before .before .before .load-lines
-    in
+    let read = c .before .before .before .before .before .before .before .before .before .before .before .before .before .before .before .before
+    .before .before .before .before .before .before .before .before .before .before .before .before .load-lines in
     settled-refused _ _ _ _ (read .result) (read .ensures) (sym (test .before .is-refused .ensures) ∙ test .if1 .taken) (blank2 .ensures)
 
 -- src/lib.rt:155:1

@@ -108,10 +108,10 @@ accept-requires c κs =
     let read-line = c .before .before .before .before .before .before .before .before .before .before .before .before .read-line in
     let if1 = c .before .before .before .before .before .before .before .before .before .before .before .before .before .before .before .if1 in
     let line-end = c .before .before .before .before .before .before .before .before .before .before .before .before .before .before .before .before .line-end in
-    let args = c .before .before .before .before .before .before .before .before .before .before .before .before .before .before .before .before .before .before .before .before .before .before .before .args
-    in
-    let pre = c .before .before .before .before .before .before .before .before .before .before .before .before .before .before .before .before .before .before .before .before .before .before .before .pre
-    in
+    let args = c .before .before .before .before .before .before .before .before .before .before .before .before .before .before .before .before
+    .before .before .before .before .before .before .before .args in
+    let pre = c .before .before .before .before .before .before .before .before .before .before .before .before .before .before .before .before
+    .before .before .before .before .before .before .before .pre in
     let g = read-good (args .image .now) (read-line .last .1 .0) (read-line .result) _ _ (args .at) (line-end .result) _ (tag .given .1) (line-end .ensures .0 .0)
     (line-end .ensures .0 .1) (read-line .ensures .0) (read-line .ensures .1 .0) in
     let i = (if1 .left) in
@@ -135,24 +135,24 @@ accept-requires c κs =
 
 add-next : tie.Need-add-next
 add-next c =
-    let line-end = c .before .before .before .before .before .before .before .before .before .before .before .before .before .before .before .before .before .before .before .before .before .before .before .before .before .line-end
-    in
-    let pre = c .before .before .before .before .before .before .before .before .before .before .before .before .before .before .before .before .before .before .before .before .before .before .before .before .before .before .before .before .before .before .before .before .pre
-    in
+    let line-end = c .before .before .before .before .before .before .before .before .before .before .before .before .before .before .before .before
+    .before .before .before .before .before .before .before .before .before .line-end in
+    let pre = c .before .before .before .before .before .before .before .before .before .before .before .before .before .before .before .before
+    .before .before .before .before .before .before .before .before .before .before .before .before .before .before .before .before .pre in
     omega (arith, (line-end .ensures .0), (pre .1))
 
 sub-finish : tie.Need-sub-finish
 sub-finish c =
-    let if1 = c .before .before .before .before .before .before .before .before .before .before .before .before .before .before .before .before .before .before .before .before .before .before .before .before .if1
-    in
-    let line-end = c .before .before .before .before .before .before .before .before .before .before .before .before .before .before .before .before .before .before .before .before .before .before .before .before .before .line-end
-    in
+    let if1 = c .before .before .before .before .before .before .before .before .before .before .before .before .before .before .before .before
+    .before .before .before .before .before .before .before .before .if1 in
+    let line-end = c .before .before .before .before .before .before .before .before .before .before .before .before .before .before .before .before
+    .before .before .before .before .before .before .before .before .before .line-end in
     omega (arith, (line-end .ensures .0), (if1 .left))
 
 add-finish : tie.Need-add-finish
 add-finish c =
-    let pre = c .before .before .before .before .before .before .before .before .before .before .before .before .before .before .before .before .before .before .before .before .before .before .before .before .before .before .before .before .before .before .before .before .pre
-    in
+    let pre = c .before .before .before .before .before .before .before .before .before .before .before .before .before .before .before .before
+    .before .before .before .before .before .before .before .before .before .before .before .before .before .before .before .before .pre in
     omega (arith, (pre .0), (pre .1), (pre .2))
 
 finish-requires : tie.Need-finish-requires
@@ -203,16 +203,16 @@ returns-3 c =
     let accept = c .before .before .before .before .before .before .before .before .before .accept in
     let record-of = c .before .before .before .before .before .before .before .before .before .before .before .before .before .before .record-of in
     let tag = c .before .before .before .before .before .before .before .before .before .before .before .before .before .before .before .before .before .before .tag in
-    let read-line = c .before .before .before .before .before .before .before .before .before .before .before .before .before .before .before .before .before .before .before .before .before .before .read-line
-    in
-    let if1 = c .before .before .before .before .before .before .before .before .before .before .before .before .before .before .before .before .before .before .before .before .before .before .before .before .before .if1
-    in
-    let line-end = c .before .before .before .before .before .before .before .before .before .before .before .before .before .before .before .before .before .before .before .before .before .before .before .before .before .before .line-end
-    in
-    let args = c .before .before .before .before .before .before .before .before .before .before .before .before .before .before .before .before .before .before .before .before .before .before .before .before .before .before .before .before .before .before .before .before .before .args
-    in
-    let pre = c .before .before .before .before .before .before .before .before .before .before .before .before .before .before .before .before .before .before .before .before .before .before .before .before .before .before .before .before .before .before .before .before .before .pre
-    in
+    let read-line = c .before .before .before .before .before .before .before .before .before .before .before .before .before .before .before .before
+    .before .before .before .before .before .before .read-line in
+    let if1 = c .before .before .before .before .before .before .before .before .before .before .before .before .before .before .before .before
+    .before .before .before .before .before .before .before .before .before .if1 in
+    let line-end = c .before .before .before .before .before .before .before .before .before .before .before .before .before .before .before .before
+    .before .before .before .before .before .before .before .before .before .before .line-end in
+    let args = c .before .before .before .before .before .before .before .before .before .before .before .before .before .before .before .before
+    .before .before .before .before .before .before .before .before .before .before .before .before .before .before .before .before .before .args in
+    let pre = c .before .before .before .before .before .before .before .before .before .before .before .before .before .before .before .before
+    .before .before .before .before .before .before .before .before .before .before .before .before .before .before .before .before .before .pre in
     let g = read-good (args .image .now) (read-line .last .1 .0) (read-line .result) _ _ (args .at) (line-end .result) _ (tag .given .1) (line-end .ensures .0 .0)
     (line-end .ensures .0 .1) (read-line .ensures .0) (read-line .ensures .1 .0) in
     let h = inside (line-end .ensures .0 .1) (if1 .left) in

@@ -2,7 +2,7 @@
 use borrow.Author.Needs.{needs}
 use Rattle.image_records.proofs.constant_fields.Statement.{statement}
 use Rattle.image_records.proofs.constant_fields.Tie as tie
-use mathlib.Core.Path.{_≡_, _∙_}
+use mathlib.Core.Path.{_∙_}
 use Prim.Native.Nat.{_<_}
 use native.Mathlib.Omega.{arith}
 use lib.ListN.{length}

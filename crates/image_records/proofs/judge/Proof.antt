@@ -1,5 +1,4 @@
 -- Each way out is the definition's `judged` at the tests on it.
-use borrow.Author.Needs.{needs}
 use Rattle.image_records.proofs.judge.Statement.{statement}
 use Rattle.image_records.proofs.judge.Tie as tie
 

@@ -3,8 +3,6 @@ use borrow.Author.Needs.{needs}
 use Rattle.line_output.proofs.put_decimal.Statement.{statement}
 use Rattle.line_output.proofs.put_decimal.Tie as tie
 use native.Mathlib.Omega.{arith}
-use mathlib.Core.Path.{sym}
-use Prim.Native.Nat.{_-_}
 use Rattle.line_output.proofs.Pieces.{decimal-put, twenty}
 
 decimal-requires : tie.Need-decimal-requires

@@ -4,7 +4,7 @@ use Rattle.line_output.proofs.put_hex.Tie as tie
 use mathlib.Core.Path.{_≡_, refl, _∙_}
 use Prim.Native.Nat.{_+_, _*_, _-_, _≤_}
 use native.Mathlib.Omega.{arith}
-use lib.ListN.{length, getD, set, take, length-set}
+use lib.ListN.{length, set, take, length-set}
 use borrow.Author.Needs.{needs}
 use Rattle.definition.specs.Runner.{hex}
 use Rattle.line_output.proofs.Pieces.{nothing, hex-next, hex-put}

@@ -47,10 +47,11 @@ returns c =
     let clear-usize3 = c .before .before .clear-usize3 in
     let clear-usize2 = c .before .before .before .before .before .before .clear-usize2 in
     let clear-usize = c .before .before .before .before .before .before .before .before .before .before .clear-usize in
-    let clear-load = c .before .before .before .before .before .before .before .before .before .before .before .before .before .before .before .before .before .before .before .before .before .before .clear-load
-    in
-    let judge = c .before .before .before .before .before .before .before .before .before .before .before .before .before .before .before .before .before .before .before .before .before .before .before .before .before .before .before .before .before .before .before .before .before .before .before .before .before .before .before .before .before .before .before .before .judge
-    in (
+    let clear-load = c .before .before .before .before .before .before .before .before .before .before .before .before .before .before .before .before
+    .before .before .before .before .before .before .clear-load in
+    let judge = c .before .before .before .before .before .before .before .before .before .before .before .before .before .before .before .before
+    .before .before .before .before .before .before .before .before .before .before .before .before .before .before .before .before .before .before
+    .before .before .before .before .before .before .before .before .before .before .judge in (
       (judge .ensures),
       record {
         loading = (clear-load .ensures);

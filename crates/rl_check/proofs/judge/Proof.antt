@@ -41,14 +41,15 @@ check-loaded-requires : tie.Need-check-loaded-requires
 check-loaded-requires c κs =
     let n = c .before .before .before .before .before .before .before .n in
     let load = c .before .before .before .before .before .before .before .before .before .before .before .before .before .before .before .before .before .before .before .load in
-    let if3 = c .before .before .before .before .before .before .before .before .before .before .before .before .before .before .before .before .before .before .before .before .before .before .before .before .before .if3
-    in
-    let if2 = c .before .before .before .before .before .before .before .before .before .before .before .before .before .before .before .before .before .before .before .before .before .before .before .before .before .before .if2
-    in
-    let if1 = c .before .before .before .before .before .before .before .before .before .before .before .before .before .before .before .before .before .before .before .before .before .before .before .before .before .before .before .if1
-    in
-    let args = c .before .before .before .before .before .before .before .before .before .before .before .before .before .before .before .before .before .before .before .before .before .before .before .before .before .before .before .before .before .before .before .before .before .before .before .before .before .args
-    in
+    let if3 = c .before .before .before .before .before .before .before .before .before .before .before .before .before .before .before .before
+    .before .before .before .before .before .before .before .before .before .if3 in
+    let if2 = c .before .before .before .before .before .before .before .before .before .before .before .before .before .before .before .before
+    .before .before .before .before .before .before .before .before .before .before .if2 in
+    let if1 = c .before .before .before .before .before .before .before .before .before .before .before .before .before .before .before .before
+    .before .before .before .before .before .before .before .before .before .before .before .if1 in
+    let args = c .before .before .before .before .before .before .before .before .before .before .before .before .before .before .before .before
+    .before .before .before .before .before .before .before .before .before .before .before .before .before .before .before .before .before .before
+    .before .before .before .args in
     ready (args .image .now) (checkWork (slices (args .bytes .now) (args .ends .now) (args .kinds .now) (args .payloads .now) (args .table .now))
     (args .heights .now) (args .depths .now) (args .todo .now)) (if1 .left) (if2 .left) (if3 .left) (slices (load .last .1 .0) (load .last .1 .1 .0)
     (load .last .1 .1 .1 .0) (load .last .1 .1 .1 .1 .0) (load .last .1 .1 .1 .1 .1 .0)) (load .result) _ (n .given .1) (load .ensures)
@@ -84,16 +85,18 @@ returns-4 : tie.Need-returns-4
 returns-4 c =
     let check-loaded = c .before .before .before .before .before .before .check-loaded in
     let n = c .before .before .before .before .before .before .before .before .before .before .before .before .before .before .n in
-    let load = c .before .before .before .before .before .before .before .before .before .before .before .before .before .before .before .before .before .before .before .before .before .before .before .before .before .before .load
-    in
-    let if3 = c .before .before .before .before .before .before .before .before .before .before .before .before .before .before .before .before .before .before .before .before .before .before .before .before .before .before .before .before .before .before .before .before .if3
-    in
-    let if2 = c .before .before .before .before .before .before .before .before .before .before .before .before .before .before .before .before .before .before .before .before .before .before .before .before .before .before .before .before .before .before .before .before .before .if2
-    in
-    let if1 = c .before .before .before .before .before .before .before .before .before .before .before .before .before .before .before .before .before .before .before .before .before .before .before .before .before .before .before .before .before .before .before .before .before .before .if1
-    in
-    let args = c .before .before .before .before .before .before .before .before .before .before .before .before .before .before .before .before .before .before .before .before .before .before .before .before .before .before .before .before .before .before .before .before .before .before .before .before .before .before .before .before .before .before .before .before .args
-    in
+    let load = c .before .before .before .before .before .before .before .before .before .before .before .before .before .before .before .before
+    .before .before .before .before .before .before .before .before .before .before .load in
+    let if3 = c .before .before .before .before .before .before .before .before .before .before .before .before .before .before .before .before
+    .before .before .before .before .before .before .before .before .before .before .before .before .before .before .before .before .if3 in
+    let if2 = c .before .before .before .before .before .before .before .before .before .before .before .before .before .before .before .before
+    .before .before .before .before .before .before .before .before .before .before .before .before .before .before .before .before .before .if2 in
+    let if1 = c .before .before .before .before .before .before .before .before .before .before .before .before .before .before .before .before
+    .before .before .before .before .before .before .before .before .before .before .before .before .before .before .before .before .before .before
+    .if1 in
+    let args = c .before .before .before .before .before .before .before .before .before .before .before .before .before .before .before .before
+    .before .before .before .before .before .before .before .before .before .before .before .before .before .before .before .before .before .before
+    .before .before .before .before .before .before .before .before .before .before .args in
     loaded-checks (args .image .now) (checkWork (slices (args .bytes .now) (args .ends .now) (args .kinds .now) (args .payloads .now) (args .table .now))
     (args .heights .now) (args .depths .now) (args .todo .now)) (if1 .left) (if2 .left) (if3 .left) (slices (load .last .1 .0) (load .last .1 .1 .0)
     (load .last .1 .1 .1 .0) (load .last .1 .1 .1 .1 .0) (load .last .1 .1 .1 .1 .1 .0)) (load .result) _ (n .given .1) (load .ensures)
@@ -122,8 +125,8 @@ returns-5 c =
     in
     let if1 = c .before .before .before .before .before .before .before .before .before .before .before .before .before .before .before .before .before .before .before .before .before .if1
     in
-    let args = c .before .before .before .before .before .before .before .before .before .before .before .before .before .before .before .before .before .before .before .before .before .before .before .before .before .before .before .before .before .before .before .args
-    in
+    let args = c .before .before .before .before .before .before .before .before .before .before .before .before .before .before .before .before
+    .before .before .before .before .before .before .before .before .before .before .before .before .before .before .before .args in
     refused-checks (args .image .now) (checkWork (slices (args .bytes .now) (args .ends .now) (args .kinds .now) (args .payloads .now) (args .table .now))
     (args .heights .now) (args .depths .now) (args .todo .now)) (if1 .left) (if2 .left) (if3 .left) (slices (load .last .1 .0) (load .last .1 .1 .0)
     (load .last .1 .1 .1 .0) (load .last .1 .1 .1 .1 .0) (load .last .1 .1 .1 .1 .1 .0)) (load .result) _ _ (c .before .reason .given .1) (load .ensures)

@@ -3,7 +3,6 @@ use Rattle.run_replay.proofs.same_bytes.Statement.{statement}
 use Rattle.run_replay.proofs.same_bytes.Tie as tie
 use native.Mathlib.Omega.{arith}
 use Prim.Native.Nat.{_-_, _≤_}
-use lib.ListN.{length}
 
 abbrev Inv-loop : tie.InvT-loop
 Inv-loop a from b n i₀ j₀ i j = from ≤ j

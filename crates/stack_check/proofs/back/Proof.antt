@@ -3,7 +3,6 @@ use borrow.Author.Needs.{needs}
 use Rattle.stack_check.proofs.back.Statement.{statement}
 use Rattle.stack_check.proofs.back.Tie as tie
 use mathlib.Core.Path.{_∙_, sym}
-use Prim.Native.Nat.{_-_}
 use Rattle.chunk.proofs.Judging.{back-to, back-before}
 use Rattle.stack_check.proofs.Nodes.{before-start}
 

@@ -3,7 +3,6 @@ use borrow.Author.Needs.{needs}
 use Rattle.stack_check.proofs.check_chunk.Statement.{statement}
 use Rattle.stack_check.proofs.check_chunk.Tie as tie
 use mathlib.Core.Path.{sym}
-use Prim.Native.Nat.{_-_}
 use Rattle.stack_check.proofs.Whole.{answer-for}
 
 judge-requires : tie.Need-judge-requires
@@ -33,8 +32,8 @@ returns c =
     let clear-usize2 = c .before .before .before .before .before .before .clear-usize2 in
     let clear-usize = c .before .before .before .before .before .before .before .before .before .before .clear-usize in
     let judge = c .before .before .before .before .before .before .before .before .before .before .before .before .before .before .before .before .before .before .judge in
-    let args = c .before .before .before .before .before .before .before .before .before .before .before .before .before .before .before .before .before .before .before .before .before .before .before .before .before .before .before .args
-    in (
+    let args = c .before .before .before .before .before .before .before .before .before .before .before .before .before .before .before .before
+    .before .before .before .before .before .before .before .before .before .before .before .args in (
       λ k e q. answer-for k (args .code .now) (args .kinds .now) (judge .result) (sym e) (sym q) (judge .ensures),
       (
         (clear-usize .ensures),

@@ -3,7 +3,6 @@ use borrow.Author.Needs.{needs}
 use Rattle.stack_check.proofs.fault_reason.Statement.{statement}
 use Rattle.stack_check.proofs.fault_reason.Tie as tie
 use mathlib.Core.Path.{refl, _∙_}
-use Prim.Native.Nat.{_-_}
 use Rattle.stack_check.specs.Node.{chunkOf}
 use Rattle.stack_check.proofs.Nodes.{kinds-back}
 use Rattle.stack_check.proofs.Found.{fault-number, is-clean}

@@ -4,7 +4,6 @@ use Rattle.stack_check.proofs.forward.Statement.{statement}
 use Rattle.stack_check.proofs.forward.Tie as tie
 use borrow.Author.Tests.{le-leb}
 use mathlib.Core.Path.{_∙_}
-use Prim.Native.Nat.{_-_}
 use Rattle.stack_check.proofs.Nodes.{fits-in}
 
 jump-forward-requires : tie.Need-jump-forward-requires

@@ -2,7 +2,7 @@
 use Rattle.stack_check.proofs.judge_row.Statement.{statement}
 use Rattle.stack_check.proofs.judge_row.Tie as tie
 use native.Mathlib.Omega.{arith}
-use Prim.Native.Nat.{_+_, _*_, _-_}
+use Prim.Native.Nat.{_+_, _*_}
 use lib.ListN.{getD}
 use borrow.Author.Needs.{needs}
 use Rattle.stack_check.proofs.Whole.{roomy-cut, answer-for}

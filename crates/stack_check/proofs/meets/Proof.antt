@@ -3,7 +3,6 @@ use borrow.Author.Needs.{needs}
 use Rattle.stack_check.proofs.meets.Statement.{statement}
 use Rattle.stack_check.proofs.meets.Tie as tie
 use mathlib.Core.Path.{refl}
-use Prim.Native.Nat.{_-_}
 
 returns : tie.Need-returns
 returns c = search needs

@@ -3,7 +3,6 @@ use borrow.Author.Needs.{needs}
 use Rattle.stack_check.proofs.spread.Statement.{statement}
 use Rattle.stack_check.proofs.spread.Tie as tie
 use mathlib.Core.Path.{refl}
-use Prim.Native.Nat.{_-_}
 use Rattle.stack_check.proofs.Theory.{coming-later, spread-two, kept-refl}
 use mathlib.Core.Logic.{inl, inr}
 

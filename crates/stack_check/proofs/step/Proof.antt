@@ -4,7 +4,6 @@ use Rattle.stack_check.proofs.step.Statement.{statement}
 use Rattle.stack_check.proofs.step.Tie as tie
 use native.Mathlib.Omega.{arith}
 use mathlib.Core.Path.{refl}
-use Prim.Native.Nat.{_-_}
 use Rattle.stack_check.proofs.Nodes.{kinds-back}
 use Rattle.stack_check.proofs.Found.{is-faulty, is-clean, is-here}
 use Rattle.stack_check.specs.Node.{chunkOf}

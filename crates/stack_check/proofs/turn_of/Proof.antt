@@ -3,7 +3,6 @@ use borrow.Author.Needs.{needs}
 use Rattle.stack_check.proofs.turn_of.Statement.{statement}
 use Rattle.stack_check.proofs.turn_of.Tie as tie
 use mathlib.Core.Path.{_∙_, sym, ap}
-use Prim.Native.Nat.{_-_}
 use Rattle.stack_check.specs.Node.{turnOf}
 use Rattle.stack_check.proofs.Nodes.{turn-is}
 use Rattle.chunk.specs.declared.Flow.the-variants.{Straight, Opens, Closes, Forward, Backward, Forks, Ends, MayEnd}

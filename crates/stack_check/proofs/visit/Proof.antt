@@ -4,7 +4,7 @@ use borrow.Author.Needs.{needs}
 use Rattle.stack_check.proofs.visit.Statement.{statement}
 use Rattle.stack_check.proofs.visit.Tie as tie
 use native.Mathlib.Omega.{arith}
-use Prim.Native.Nat.{ℕ, _-_, _≤_, _<_}
+use Prim.Native.Nat.{ℕ, _≤_, _<_}
 use Rattle.stack_check.proofs.Theory.{positive, visit-past, visit-wrong, visit-new, visit-same, room-left, wrong-end, wrong-height, wrong-depth}
 
 apart : {a b : ℕ} → a < b → b ≤ a → ⊥

@@ -48,10 +48,10 @@ returns c =
     let put-padded = c .before .before .before .before .before .before .before .before .before .before .before .before .before .before .before .before .put-padded in
     let put2 = c .before .before .before .before .before .before .before .before .before .before .before .before .before .before .before .before .before .before .before .before .put2
     in
-    let put-decimal = c .before .before .before .before .before .before .before .before .before .before .before .before .before .before .before .before .before .before .before .before .before .before .before .before .before .put-decimal
-    in
-    let put = c .before .before .before .before .before .before .before .before .before .before .before .before .before .before .before .before .before .before .before .before .before .before .before .before .before .before .before .before .before .put
-    in
+    let put-decimal = c .before .before .before .before .before .before .before .before .before .before .before .before .before .before .before
+    .before .before .before .before .before .before .before .before .before .before .put-decimal in
+    let put = c .before .before .before .before .before .before .before .before .before .before .before .before .before .before .before .before
+    .before .before .before .before .before .before .before .before .before .before .before .before .before .put in
     let o = then ((put-padded2 .ensures) .0) (put4 .ensures) in
     let k = then ((put-padded .ensures) .0) (then (put3 .ensures) o) in
     let n = then ((put-decimal .ensures) .0) (then (put2 .ensures) k) in

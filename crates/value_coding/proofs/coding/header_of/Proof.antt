@@ -1,16 +1,11 @@
 -- The kind, the size and the word are those of `headerOf`, each by the function that gives it.
-use mathlib.Core.Path.{_≡_, refl, sym, ap, _∙_, subst}
+use mathlib.Core.Path.{_∙_}
 use Rattle.values.specs.Flat.{headOf}
 use Rattle.value_coding.proofs.Codes.{header-made}
 use Rattle.values.proofs.KindCodes.{kind-is}
 use borrow.Author.Needs.{needs}
 use Rattle.value_coding.proofs.coding.header_of.Statement.{statement}
 use Rattle.value_coding.proofs.coding.header_of.Tie as tie
-use Rattle.value_coding.proofs.coding.header_of.Reads as reads
-use Rattle.value_coding.proofs.coding.header_of.Lts as lts
-use Rattle.value_coding.proofs.coding.header_size.Reads as header-size-reads
-use Rattle.value_coding.proofs.coding.header_word.Reads as header-word-reads
-use Rattle.values.proofs.kind_of.Reads as kind-of-reads
 
 kind-of-requires : tie.Need-kind-of-requires
 kind-of-requires c κs = search needs

@@ -1,7 +1,7 @@
--- `shared_values::bombs::nest` meets its contract: each turn puts both values one array deeper. Assumes nothing.
-use mathlib.Core.Path.{_≡_, refl, sym, ap, _∙_, subst}
+-- `shared_values::shared_subtrees::nest` meets its contract: each turn puts both values one array deeper. Assumes nothing.
+use mathlib.Core.Path.{_≡_, refl, _∙_, subst}
 use native.Mathlib.Omega.{arith}
-use Prim.Native.Nat.{ℕ, _+_, _-_, _≤_, _<_}
+use Prim.Native.Nat.{ℕ, _-_, _≤_}
 use lib.ListN.{length}
 use borrow.Author.Needs.{needs}
 use Rattle.numbers.specs.declared.Number.{Number}
@@ -9,11 +9,8 @@ use Rattle.values.specs.declared.VmValue.the-variants.{Num}
 use Rattle.shared_values.specs.declared.Grown.{Grown}
 use Rattle.shared_values.specs.Nested.{GrownGives, NestedAt}
 use Rattle.shared_values.proofs.Nesting.{Twins, first-twins, next-twins, turn-fails}
-use Rattle.shared_values.proofs.bombs.nest.Statement.{statement}
-use Rattle.shared_values.proofs.bombs.nest.Tie as tie
-use Rattle.shared_values.proofs.bombs.nest.Reads as reads
-use Rattle.shared_values.proofs.bombs.nest.Lts as lts
-use Rattle.shared_values.proofs.bombs.grow.Reads as grow-reads
+use Rattle.shared_values.proofs.shared_subtrees.nest.Statement.{statement}
+use Rattle.shared_values.proofs.shared_subtrees.nest.Tie as tie
 
 abbrev Inv-loop : tie.InvT-loop
 Inv-loop cells₀ nc depth x₀ y₀ n₀ i₀ cells x y n i = (i ≤ depth) × (length cells ≡ length cells₀) × ((leaf last : Number) → x₀ ≡ Num leaf → y₀ ≡ Num

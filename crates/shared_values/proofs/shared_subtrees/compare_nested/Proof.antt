@@ -1,7 +1,7 @@
 -- What the inner function answers, and both slices cleared.
 use borrow.Author.Needs.{needs}
-use Rattle.shared_values.proofs.bombs.compare_nested.Statement.{statement}
-use Rattle.shared_values.proofs.bombs.compare_nested.Tie as tie
+use Rattle.shared_values.proofs.shared_subtrees.compare_nested.Statement.{statement}
+use Rattle.shared_values.proofs.shared_subtrees.compare_nested.Tie as tie
 
 compare-in-requires : tie.Need-compare-in-requires
 compare-in-requires c κs = search needs

@@ -1,7 +1,7 @@
 -- What the inner function answers, and the cells cleared.
 use borrow.Author.Needs.{needs}
-use Rattle.shared_values.proofs.bombs.code_nested.Statement.{statement}
-use Rattle.shared_values.proofs.bombs.code_nested.Tie as tie
+use Rattle.shared_values.proofs.shared_subtrees.code_nested.Statement.{statement}
+use Rattle.shared_values.proofs.shared_subtrees.code_nested.Tie as tie
 
 code-in-requires : tie.Need-code-in-requires
 code-in-requires c κs = search needs

@@ -1,22 +1,18 @@
--- `shared_values::bombs::grow` meets its contract: one array, then the other. Assumes nothing.
-use mathlib.Core.Path.{_≡_, refl, sym, ap, _∙_, subst}
-use mathlib.Core.List.{List, [], _∷_}
+-- `shared_values::shared_subtrees::grow` meets its contract: one array, then the other. Assumes nothing.
+use mathlib.Core.Path.{subst}
+use mathlib.Core.List.{[], _∷_}
 use native.Mathlib.Omega.{arith}
 use mathlib.Core.Logic.{inl, inr}
-use Prim.Native.Nat.{ℕ, _+_, _*_, _≤_, _<_}
+use Prim.Native.Nat.{_+_, _*_, _≤_, _<_}
 use lib.ListN.{length}
 use Rattle.values.specs.Flat.{deepest}
 use Rattle.shared_values.proofs.Nesting.{no-room, too-deep, no-room-then}
 use Rattle.definition.specs.Value.{arr}
 use Rattle.values.specs.declared.Built.{Built}
 use Rattle.values.specs.Building.{Builds}
-use Rattle.shared_values.specs.Nested.{Grows}
 use borrow.Author.Needs.{needs}
-use Rattle.shared_values.proofs.bombs.grow.Statement.{statement}
-use Rattle.shared_values.proofs.bombs.grow.Tie as tie
-use Rattle.shared_values.proofs.bombs.grow.Reads as reads
-use Rattle.shared_values.proofs.bombs.grow.Lts as lts
-use Rattle.shared_values.proofs.bombs.pair.Reads as pair-reads
+use Rattle.shared_values.proofs.shared_subtrees.grow.Statement.{statement}
+use Rattle.shared_values.proofs.shared_subtrees.grow.Tie as tie
 
 pair-requires : tie.Need-pair-requires
 pair-requires c κs = search needs

@@ -1,22 +1,16 @@
 -- With cells too few or a tree too deep nothing is coded, as the contract says; else `nest` gives what `code_value` asks, and what it codes
 -- is the tree.
-use mathlib.Core.Path.{_≡_, refl, sym, ap, _∙_, subst}
+use mathlib.Core.Path.{refl, subst}
 use native.Mathlib.Omega.{arith}
-use Prim.Native.Nat.{ℕ, _+_, _*_, _≤_, _<_}
 use Rattle.shared_values.proofs.Nesting.{empty-asks, code-asks, code-gives, too-nested}
 use mathlib.Core.Logic.{inl, inr}
 use Rattle.shared_values.specs.Nested.{not-built}
 use Rattle.shared_values.specs.declared.Nested.{Nested}
-use Rattle.shared_values.specs.Nested.{NestedGives, NestedAt}
-use mathlib.Core.List.{List}
-use lib.ListN.{length, replicate}
+use Rattle.shared_values.specs.Nested.{NestedGives}
+use lib.ListN.{length}
 use borrow.Author.Needs.{needs}
-use Rattle.shared_values.proofs.bombs.code_in.Statement.{statement}
-use Rattle.shared_values.proofs.bombs.code_in.Tie as tie
-use Rattle.shared_values.proofs.bombs.code_in.Reads as reads
-use Rattle.shared_values.proofs.bombs.code_in.Lts as lts
-use Rattle.shared_values.proofs.bombs.nest.Reads as nest-reads
-use Rattle.value_coding.proofs.code_value.Reads as code-value-reads
+use Rattle.shared_values.proofs.shared_subtrees.code_in.Statement.{statement}
+use Rattle.shared_values.proofs.shared_subtrees.code_in.Tie as tie
 
 returns : tie.Need-returns
 returns c = not-built (inl (c .if1 .taken)) refl refl

@@ -1,14 +1,8 @@
 -- The two stores leave x and y in the four words, so what `build_sequence` promises is the value of these two: by `paired`.
-use mathlib.Core.Path.{_≡_, refl, sym, ap, _∙_, subst}
-use native.Mathlib.Omega.{arith}
 use Rattle.shared_values.proofs.Nesting.{paired}
 use borrow.Author.Needs.{needs}
-use Rattle.shared_values.proofs.bombs.pair.Statement.{statement}
-use Rattle.shared_values.proofs.bombs.pair.Tie as tie
-use Rattle.shared_values.proofs.bombs.pair.Reads as reads
-use Rattle.shared_values.proofs.bombs.pair.Lts as lts
-use Rattle.values.proofs.build_sequence.Reads as build-sequence-reads
-use Rattle.values.proofs.store_value.Reads as store-value-reads
+use Rattle.shared_values.proofs.shared_subtrees.pair.Statement.{statement}
+use Rattle.shared_values.proofs.shared_subtrees.pair.Tie as tie
 
 slice-aggregate-store-value : tie.Need-slice-aggregate-store-value
 slice-aggregate-store-value c = search needs

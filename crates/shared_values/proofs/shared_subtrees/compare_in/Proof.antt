@@ -1,22 +1,15 @@
 -- With slices too short or trees too deep nothing is compared, as the contract says; else the two calls of `nest` give what `equal` asks,
 -- and its answer is that for the trees.
-use mathlib.Core.Path.{_≡_, refl, sym, ap, _∙_, subst}
+use mathlib.Core.Path.{subst}
 use native.Mathlib.Omega.{arith}
-use Prim.Native.Nat.{ℕ, _+_, _*_, _≤_, _<_}
+use Prim.Native.Nat.{_*_, _≤_}
 use Rattle.shared_values.proofs.Nesting.{empty-asks, equal-asks, equal-gives, nested-at, too-nested}
 use mathlib.Core.Logic.{inl, inr}
 use Rattle.shared_values.specs.declared.Nested.{Nested}
-use Rattle.shared_values.specs.Nested.{NestedGives, NestedAt}
-use mathlib.Core.List.{List}
-use lib.ListN.{length}
+use Rattle.shared_values.specs.Nested.{NestedGives}
 use borrow.Author.Needs.{needs}
-use Rattle.shared_values.proofs.bombs.compare_in.Statement.{statement}
-use Rattle.shared_values.proofs.bombs.compare_in.Tie as tie
-use Rattle.shared_values.proofs.bombs.compare_in.Reads as reads
-use Rattle.shared_values.proofs.bombs.compare_in.Lts as lts
-use Rattle.clearing.proofs.clear_u16.Reads as clear-u16-reads
-use Rattle.shared_values.proofs.bombs.nest.Reads as nest-reads
-use Rattle.value_equality.proofs.equal.Reads as equal-reads
+use Rattle.shared_values.proofs.shared_subtrees.compare_in.Statement.{statement}
+use Rattle.shared_values.proofs.shared_subtrees.compare_in.Tie as tie
 
 returns : tie.Need-returns
 returns c = inl (c .if1 .taken)
@@ -62,8 +55,8 @@ equal-requires c κs =
     in
     let if2 = c .before .before .before .before .before .before .before .before .before .before .before .before .before .before .before .before .before .before .before .before .before .before .if2
     in
-    let args = c .before .before .before .before .before .before .before .before .before .before .before .before .before .before .before .before .before .before .before .before .before .before .before .before .before .before .args
-    in
+    let args = c .before .before .before .before .before .before .before .before .before .before .before .before .before .before .before .before
+    .before .before .before .before .before .before .before .before .before .before .args in
     equal-asks (args .left) (args .left-last) (args .right) (args .right-last) (args .depth) (a2 .given .0 .1 .0) (b .given .0 .1 .0) (args .cells .now)
     (nest3 .last .0) (nest2 .last .0) (clear-u16 .last .0) (a2 .given .0 .0) (b .given .0 .0) (clear-u16 .ensures) (omega (
       arith,
@@ -92,8 +85,8 @@ returns-3 c =
     let nest2 = c .before .before .before .before .before .before .before .before .before .before .before .before .nest2 in
     let a2 = c .before .before .before .before .before .before .before .before .before .before .before .before .before .before .before .a in
     let nest3 = c .before .before .before .before .before .before .before .before .before .before .before .before .before .before .before .before .before .before .before .nest in
-    let args = c .before .before .before .before .before .before .before .before .before .before .before .before .before .before .before .before .before .before .before .before .before .before .before .before .before .before .before .before .before .args
-    in
+    let args = c .before .before .before .before .before .before .before .before .before .before .before .before .before .before .before .before
+    .before .before .before .before .before .before .before .before .before .before .before .before .before .args in
     equal-gives (args .left) (args .left-last) (args .right) (args .right-last) (args .depth) (a2 .given .0 .1 .0) (b .given .0 .1 .0) (args .cells .now)
     (nest3 .last .0) (nest2 .last .0) _ (a2 .given .0 .0) (b .given .0 .0) (equal2 .result) (subst (λ (r : Nested). NestedGives (args .left) (args .left-last)
     (args .depth) 0 (args .cells .now) (nest3 .last .0) r) (a2 .given .1) (nest3 .ensures)) (subst (λ (r : Nested). NestedGives (args .right)

@@ -1,8 +1,7 @@
-// Values built and compared from empty cells, with no requires: what `value_equality::equal` and `value_coding::code_value` ask is met by
-// what building gives.
-ghost use mathlib.Core.Path.{_≡_};
+// Trees whose subtrees are shared, built and compared from empty cells, with no requires: what `value_equality::equal` and
+// `value_coding::code_value` ask is met by what building gives.
 ghost use mathlib.Core.List.{[], _∷_};
-ghost use Prim.Native.Nat.{ℕ, _+_, _*_, _<_, _≤_};
+ghost use Prim.Native.Nat.{_≤_};
 ghost use lib.ListN.{length};
 ghost use Rattle.definition.specs.Value.{arr};
 ghost use Rattle.clearing.specs.Zero.{AllZero};
