@@ -7,8 +7,6 @@ use lib.Ieee.Bits.{ofBits-toBits}
 use Rattle.float_bits.specs.Nearest.{nearestBinary32}
 use Rattle.float_bits.proofs.nearest_f64_to_f32.Statement.{statement}
 use Rattle.float_bits.proofs.nearest_f64_to_f32.Tie as tie
-use Rattle.float_bits.proofs.nearest_f64_to_f32.Reads as reads
-use Rattle.float_bits.proofs.nearest_f64_to_f32.Lts as lts
 
 word-of-f64-requires : tie.Need-word-of-f64-requires
 word-of-f64-requires c κs = search needs

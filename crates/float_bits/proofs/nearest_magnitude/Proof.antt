@@ -10,9 +10,6 @@ use Rattle.float_bits.proofs.Nearest.{to-nan, to-infinity, to-normal, t
 use Rattle.float_bits.proofs.Round.{closest-le}
 use Rattle.float_bits.proofs.nearest_magnitude.Statement.{statement}
 use Rattle.float_bits.proofs.nearest_magnitude.Tie as tie
-use Rattle.float_bits.proofs.nearest_magnitude.Reads as reads
-use Rattle.float_bits.proofs.nearest_magnitude.Lts as lts
-use Rattle.float_bits.proofs.shift_to_nearest.Reads as shift-to-nearest-reads
 
 returns : tie.Need-returns
 returns c = (to-nan _ (c .before .pre) (c .if1 .taken), search needs)

@@ -9,8 +9,6 @@ use mathlib.Core.Path.{_≡_, ap, _∙_, sym}
 use native.Mathlib.Nat.{zero-add}
 use Rattle.float_bits.proofs.nearest_word.Statement.{statement}
 use Rattle.float_bits.proofs.nearest_word.Tie as tie
-use Rattle.float_bits.proofs.nearest_word.Reads as reads
-use Rattle.float_bits.proofs.nearest_word.Lts as lts
 
 nearest-magnitude-requires : tie.Need-nearest-magnitude-requires
 nearest-magnitude-requires c κs = search needs

@@ -7,12 +7,6 @@ use Rattle.number_bench.specs.Turns.{steps, countOn}
 use Rattle.number_bench.proofs.Loops.{no-step, next-step, counted, all-counted}
 use Rattle.number_bench.proofs.bench_less.Statement.{statement}
 use Rattle.number_bench.proofs.bench_less.Tie as tie
-use Rattle.number_bench.proofs.bench_less.Reads as reads
-use Rattle.number_bench.proofs.bench_less.Lts as lts
-use Rattle.number_bench.proofs.number.Reads as number-reads
-use Rattle.number_bench.proofs.pace.Reads as pace-reads
-use Rattle.number_comparison.proofs.less.Reads as less-reads
-use Rattle.std.proofs.num.wrapping_add_u64.Reads as wrapping-add-u64-reads
 
 abbrev Inv-loop : tie.InvT-loop
 Inv-loop n kind second last i₀ acc₀ bound i acc = (i ≤ n) × (steps (countOn kind bound) i acc₀ ≡ acc)

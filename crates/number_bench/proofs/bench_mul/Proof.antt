@@ -13,11 +13,6 @@ use Rattle.number_bench.specs.Turns.{turns}
 use Rattle.number_bench.proofs.Loops.{no-turn, next-turn, all-turns, faulted, other-tag}
 use Rattle.number_bench.proofs.bench_mul.Statement.{statement}
 use Rattle.number_bench.proofs.bench_mul.Tie as tie
-use Rattle.number_bench.proofs.bench_mul.Reads as reads
-use Rattle.number_bench.proofs.bench_mul.Lts as lts
-use Rattle.number_bench.proofs.number.Reads as number-reads
-use Rattle.number_codes.proofs.payload_of.Reads as payload-of-reads
-use Rattle.number_arithmetic.proofs.mul.Reads as mul-reads
 
 abbrev Inv-loop : tie.InvT-loop
 Inv-loop n kind first second last i₀ acc₀ operand i acc = (i ≤ n) × (turns (λ (x : Number). mulOf x operand) i acc₀ ≡ Value acc)

@@ -13,11 +13,6 @@ use Rattle.number_bench.specs.Turns.{turns}
 use Rattle.number_bench.proofs.Loops.{no-turn, next-turn, all-turns, faulted, other-tag}
 use Rattle.number_bench.proofs.bench_sub.Statement.{statement}
 use Rattle.number_bench.proofs.bench_sub.Tie as tie
-use Rattle.number_bench.proofs.bench_sub.Reads as reads
-use Rattle.number_bench.proofs.bench_sub.Lts as lts
-use Rattle.number_bench.proofs.number.Reads as number-reads
-use Rattle.number_codes.proofs.payload_of.Reads as payload-of-reads
-use Rattle.number_arithmetic.proofs.sub.Reads as sub-reads
 
 abbrev Inv-loop : tie.InvT-loop
 Inv-loop n kind first second last i₀ acc₀ operand i acc = (i ≤ n) × (turns (λ (x : Number). subOf x operand) i acc₀ ≡ Value acc)

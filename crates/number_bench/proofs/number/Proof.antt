@@ -3,9 +3,6 @@ use borrow.Author.Needs.{needs}
 use Rattle.number_bench.proofs.Loops.{found-is, none-is}
 use Rattle.number_bench.proofs.number.Statement.{statement}
 use Rattle.number_bench.proofs.number.Tie as tie
-use Rattle.number_bench.proofs.number.Reads as reads
-use Rattle.number_bench.proofs.number.Lts as lts
-use Rattle.number_codes.proofs.number_of_payload.Reads as number-of-payload-reads
 
 number-of-payload-requires : tie.Need-number-of-payload-requires
 number-of-payload-requires c κs = search needs
