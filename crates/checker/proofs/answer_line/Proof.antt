@@ -38,10 +38,12 @@ same-length : tie.Need-same-length
 same-length c = search needs
 
 returns : tie.Need-returns
-returns c = says (c .before .before .before .before .before .before .before .before .before .before .before .before .before .before .before .before
-    .before .before .before .before .before .before .before .args .image .now)
-    _ (c .before .before .before .before .before .before .before .before .before .before .before .before .check .result)
-    ((c .before .before .before .before .before .before .before .before .before .before .before .before .check .ensures) .0)
+returns c =
+    let check = c .before .before .before .before .before .before .before .before .before .before .before .before .check in
+    let args = c .before .before .before .before .before .before .before .before .before .before .before .before .before .before .before .before .before .before .before .before .before .before .before .args in
+    says (args .image .now)
+    _ (check .result)
+    ((check .ensures) .0)
     (not-short _ (search needs) (search needs) (search needs) (search needs) (search needs) (search needs) (search needs) (search needs)) (c .before .before .spell .ensures)
 
 pub answer-line-spec : {M : Type 1} → statement M

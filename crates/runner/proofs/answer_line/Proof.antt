@@ -53,21 +53,23 @@ slice-aggregate-spell : tie.Need-slice-aggregate-spell
 slice-aggregate-spell c = search needs
 
 spell-requires : tie.Need-spell-requires
-spell-requires c κs = spell-asks (c .before .before .before .before .before .before .before .before .before .before .before .before .before .before
-    .before .before .before .before .before .before .before .before .before .before .before .before .before .before .before .before .before .before
-    .before .args .out .now)
-    ((c .before .before .before .before .before .before .before .before .before .before .before .before .before .before .before .before .run .ensures) .0)
-    (search needs) (c .before .before .before .before .before .before .before .before .before .before .before .before .before .before .before .before
-    .before .before .before .before .before .before .before .before .before .before .before .before .before .before .before .before .before .pre)
+spell-requires c κs =
+    let run = c .before .before .before .before .before .before .before .before .before .before .before .before .before .before .before .before .run in
+    let args = c .before .before .before .before .before .before .before .before .before .before .before .before .before .before .before .before .before .before .before .before .before .before .before .before .before .before .before .before .before .before .before .before .before .args in
+    let pre = c .before .before .before .before .before .before .before .before .before .before .before .before .before .before .before .before .before .before .before .before .before .before .before .before .before .before .before .before .before .before .before .before .before .pre in
+    spell-asks (args .out .now)
+    ((run .ensures) .0)
+    (search needs) pre
 
 same-length : tie.Need-same-length
 same-length c = search needs
 
 returns : tie.Need-returns
-returns c = says (c .before .before .before .before .before .before .before .before .before .before .before .before .before .before .before .before
-    .before .before .before .before .before .before .before .before .before .before .before .before .before .before .before .before .before .before
-    .before .before .args .image .now)
-    ((c .before .before .before .before .before .before .before .before .before .before .before .before .before .before .before .before .before .before .before .run .ensures) .0)
+returns c =
+    let run = c .before .before .before .before .before .before .before .before .before .before .before .before .before .before .before .before .before .before .before .run in
+    let args = c .before .before .before .before .before .before .before .before .before .before .before .before .before .before .before .before .before .before .before .before .before .before .before .before .before .before .before .before .before .before .before .before .before .before .before .before .args in
+    says (args .image .now)
+    ((run .ensures) .0)
     (search needs) (search needs) (search needs) (search needs) (search needs) (search needs) (search needs) (search needs) (search needs) (search
     needs) (search needs) (search needs) (search needs) (search needs) (c .before .before .spell .ensures)
 

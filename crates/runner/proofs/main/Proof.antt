@@ -27,10 +27,14 @@ slice-aggregate-input-line-2 c = search needs
 
 input-line-requires : tie.Need-input-line-requires
 input-line-requires c κs =
+    let n = c .before .before .before .n in
     let reading = c .before .before .before .before .before .before .before .read-input in
     let input = c .before .before .before .before .before .input-of in
-    let given = c .before .before .before .n .given in
-    (search needs, bytes-within (input .result) _ (reading .result .at) _ (reading .result .last) (given .1) (input .ensures) (reading .ensures), search needs)
+    let given = n .given in (
+      search needs,
+      bytes-within (input .result) _ (reading .result .at) _ (reading .result .last) (given .1) (input .ensures) (reading .ensures),
+      search needs,
+    )
 
 slice-aggregate-write-line : tie.Need-slice-aggregate-write-line
 slice-aggregate-write-line c = search needs
