@@ -12,6 +12,7 @@ use image_input::input_of;
 use image_input::read_input;
 use line_output::write_line;
 use lines::spell;
+use rl_vm::IMAGE_MOST;
 use rl_vm::check;
 use rl_vm::least;
 
@@ -52,7 +53,7 @@ fn input_line(read: &[u8], n: usize, out: &mut [u8]) -> usize
 }
 
 fn main() {
-    let mut read = [0u8; 65537];
+    let mut read = [0u8; IMAGE_MOST + 1];
     let mut line = [0u8; 96];
     match input_of(read_input(b"checker", &mut read)) {
         Input::Bytes(n) => {

@@ -21,6 +21,9 @@ use line_digits::Read;
 use line_digits::line_end;
 use line_digits::read_line;
 
+// The most bytes that an image may have.
+pub const IMAGE_MOST: usize = 65536;
+
 // How much of the work slices a loaded image fills: `bytes`, `ends`, `kinds` and `payloads` up to these counts, `table` up to one row
 // of four more than there are chunks.
 pub struct Counts {
@@ -197,7 +200,7 @@ pub fn load(
     if table.len() < least::TABLE {
         return small;
     }
-    if 65536 < image.len() {
+    if IMAGE_MOST < image.len() {
         return LoadAnswer::Refused(Reason::TooLong, 0);
     }
     load_roomy(image, bytes, ends, kinds, payloads, table)

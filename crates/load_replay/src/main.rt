@@ -9,6 +9,7 @@ mod list;
 ghost use Prim.Native.Nat.{_≤_};
 use case_list::after;
 use case_list::put;
+use image::IMAGE_MOST;
 use image::LoadAnswer;
 use image::least;
 use image::load;
@@ -263,9 +264,9 @@ fn print_count(what: &[u8], n: u64) {
 
 // The images that are too long for a list: line feeds, one more than an image may have, and as many as it may have.
 fn by_rule(t: Tally) -> Tally {
-    let long = [10u8; 65537];
+    let long = [10u8; IMAGE_MOST + 1];
     let t = judge(t, &long, b"= refused 1 0");
-    let whole = [10u8; 65536];
+    let whole = [10u8; IMAGE_MOST];
     judge(t, &whole, b"= refused 2 1")
 }
 

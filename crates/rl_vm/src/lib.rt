@@ -4,6 +4,7 @@ pub mod least; // the least lengths of the work slices
 mod run_export; // `run` for C and Rust
 
 pub use export::rl_vm_check;
+pub use image::IMAGE_MOST;
 pub use load_answers::refusal_number;
 pub use rl_check::CheckAnswer;
 pub use rl_check::check;
