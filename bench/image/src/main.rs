@@ -2,6 +2,10 @@
 //!
 //!     rt staticlib image_bench
 //!     cargo run --release --offline --manifest-path bench/image/Cargo.toml --target-dir target/cargo
+#[allow(dead_code)]
+#[path = "../../../bindings/rust/src/least.rs"]
+mod least;
+
 use std::hint::black_box;
 use std::time::{Duration, Instant};
 
@@ -124,11 +128,11 @@ fn middle(mut f: impl FnMut(), times: usize) -> Duration {
 
 fn main() {
     let mut s = Slices {
-        bytes: vec![0; 32_768],
-        ends: vec![0; 256],
-        kinds: vec![0; 13_107],
-        payloads: vec![0; 13_107],
-        table: vec![0; 260],
+        bytes: vec![0; least::BYTES],
+        ends: vec![0; least::ENDS],
+        kinds: vec![0; least::KINDS],
+        payloads: vec![0; least::PAYLOADS],
+        table: vec![0; least::TABLE],
     };
     let chunk = "02000000";
     let images = [
@@ -137,7 +141,7 @@ fn main() {
         ("Null constants", filled(&["01", chunk], "0300", 256, chunk, "05")),
         ("texts", filled(&[], &format!("01{}", "41".repeat(200)), 1_000, "01", &format!("{chunk}\n05"))),
     ];
-    let mut out = vec![0u8; 32_768];
+    let mut out = vec![0u8; least::BYTES];
     for (name, image) in &images {
         let answer = load(image, &mut s);
         let loaded = middle(|| { black_box(load(black_box(image), &mut s)); }, 2_001);

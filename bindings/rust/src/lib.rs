@@ -6,6 +6,9 @@
 //! work on slices that the caller lends, and allocate nothing.
 #![deny(unsafe_code)]
 
+#[macro_use]
+mod slices;
+
 mod decode;
 pub mod least;
 #[allow(unsafe_code)]

@@ -5,17 +5,17 @@
 
 use crate::least;
 
-/// Declares an exported function by what it takes after the image, in its order: numbers, slices that
-/// the caller lends, work slices with their least lengths, and numbers that it answers beside the one
-/// that it returns. Of this come the work slices with a safe call, and memory that can be lent as such.
+/// Declares an exported function by what it takes after the image: numbers, slices that the caller lends,
+/// work slices with their least lengths, and numbers that it answers beside the one that it returns, in
+/// this order. Of this come the work slices with a safe call, and memory that can be lent as such.
 macro_rules! exported {
     (
         $(#[$what:meta])*
         $name:ident of $work:ident and $memory:ident
         takes [$($number:ident: $type:ty),*]
         lent [$($lent:ident: $own:ty),*]
-        works on [$($slice:ident: $element:ty = $least:expr),* $(,)?]
         answers [$($out:ident),*]
+        works on [$($slice:ident: $element:ty = $least:expr,)*]
     ) => {
         $(#[$what])*
         /// What they hold before does not matter; all of them are zero afterwards.
@@ -75,43 +75,24 @@ macro_rules! exported {
     };
 }
 
-exported! {
-    /// The slices that a check works on, each at least as long as [`least`] says.
-    rl_vm_check of CheckWork and CheckMemory
-    takes []
-    lent []
-    works on [
-        bytes: u8 = least::BYTES,
-        ends: usize = least::ENDS,
-        kinds: u8 = least::KINDS,
-        payloads: u64 = least::PAYLOADS,
-        table: usize = least::TABLE,
-        heights: usize = least::HEIGHTS,
-        depths: usize = least::DEPTHS,
-        todo: usize = least::TODO,
-    ]
-    answers [line, chunk, offset]
+check_slices! {
+    exported! {
+        /// The slices that a check works on, each at least as long as [`least`] says.
+        rl_vm_check of CheckWork and CheckMemory
+        takes []
+        lent []
+        answers [line, chunk, offset]
+        works on
+    }
 }
 
-exported! {
-    /// The slices that a run works on, each at least as long as [`least`] says.
-    rl_vm_run of RunWork and RunMemory
-    takes [budget: usize]
-    lent [result: u8]
-    works on [
-        bytes: u8 = least::BYTES,
-        ends: usize = least::ENDS,
-        kinds: u8 = least::KINDS,
-        payloads: u64 = least::PAYLOADS,
-        table: usize = least::TABLE,
-        texts: u64 = least::TEXTS,
-        classes: u64 = least::CLASSES,
-        stack: u64 = least::STACK,
-        locals: u64 = least::LOCALS,
-        starts: usize = least::STARTS,
-        globals: u64 = least::GLOBALS,
-        cells: u64 = least::CELLS,
-        memo: u16 = least::MEMO,
-    ]
-    answers [count, length, line, chunk, offset]
+run_slices! {
+    exported! {
+        /// The slices that a run works on, each at least as long as [`least`] says.
+        rl_vm_run of RunWork and RunMemory
+        takes [budget: usize]
+        lent [result: u8]
+        answers [count, length, line, chunk, offset]
+        works on
+    }
 }

@@ -12,21 +12,23 @@ use image_input::input_of;
 use image_input::read_input;
 use line_output::write_line;
 use lines::spell;
+use rl_vm::IMAGE_MOST;
 use rl_vm::check;
+use rl_vm::least;
 
 // The line for an image, at the start of `out`, and where it ends.
 fn answer_line(image: &[u8], out: &mut [u8]) -> usize
     requires { ⌜ 96 ≤ length (now out) ⌝ }
     ensures { λ r. ⌜ Says (now (image .entry)) (now (out .entry)) (now (out .exit)) r ⌝ }
 {
-    let mut bytes = [0u8; 32768];
-    let mut ends = [0usize; 256];
-    let mut kinds = [0u8; 13107];
-    let mut payloads = [0u64; 13107];
-    let mut table = [0usize; 260];
-    let mut heights = [0usize; 4096];
-    let mut depths = [0usize; 4096];
-    let mut todo = [0usize; 4096];
+    let mut bytes = [0u8; least::BYTES];
+    let mut ends = [0usize; least::ENDS];
+    let mut kinds = [0u8; least::KINDS];
+    let mut payloads = [0u64; least::PAYLOADS];
+    let mut table = [0usize; least::TABLE];
+    let mut heights = [0usize; least::HEIGHTS];
+    let mut depths = [0usize; least::DEPTHS];
+    let mut todo = [0usize; least::TODO];
     let a = check(
         image,
         &mut bytes,
@@ -51,7 +53,7 @@ fn input_line(read: &[u8], n: usize, out: &mut [u8]) -> usize
 }
 
 fn main() {
-    let mut read = [0u8; 65537];
+    let mut read = [0u8; IMAGE_MOST + 1];
     let mut line = [0u8; 96];
     match input_of(read_input(b"checker", &mut read)) {
         Input::Bytes(n) => {

@@ -1,5 +1,7 @@
 // Load: the bytes of an image, judged and decoded into lent work slices (document 01, "Image lines" and "Load").
 // `line_digits` has digits and lines, `image_records` what a line says, `image_store` what a line leaves in the work slices.
+pub mod least; // the least lengths of the work slices
+
 ghost use mathlib.Core.Path.{_≡_};
 ghost use Prim.Native.Nat.{_≤_, _<_};
 ghost use lib.ListN.{length};
@@ -18,6 +20,9 @@ use image_store::finish;
 use line_digits::Read;
 use line_digits::line_end;
 use line_digits::read_line;
+
+// The most bytes that an image may have.
+pub const IMAGE_MOST: usize = 65536;
 
 // How much of the work slices a loaded image fills: `bytes`, `ends`, `kinds` and `payloads` up to these counts, `table` up to one row
 // of four more than there are chunks.
@@ -131,15 +136,11 @@ fn blank(
     requires { ⌜ LoadRoomy (slices (now bytes) (now ends) (now kinds) (now payloads) (now table)) ⌝ }
     ensures { λ r. ⌜ slices (now (bytes .exit)) (now (ends .exit)) (now (kinds .exit)) (now (payloads .exit)) (now (table .exit)) ≡ blanked (slices (now (bytes .entry)) (now (ends .entry)) (now (kinds .entry)) (now (payloads .entry)) (now (table .entry))) ⌝ }
 {
-    let most_bytes = 32768;
-    let most_texts = 256;
-    let most_constants = 13107;
-    let most_rows = 260;
-    clear_u8(&mut bytes[..most_bytes]);
-    clear_usize(&mut ends[..most_texts]);
-    clear_u8(&mut kinds[..most_constants]);
-    clear_u64(&mut payloads[..most_constants]);
-    clear_usize(&mut table[..most_rows]);
+    clear_u8(&mut bytes[..least::BYTES]);
+    clear_usize(&mut ends[..least::ENDS]);
+    clear_u8(&mut kinds[..least::KINDS]);
+    clear_u64(&mut payloads[..least::PAYLOADS]);
+    clear_usize(&mut table[..least::TABLE]);
 }
 
 fn is_refused(answer: LoadAnswer) -> bool
@@ -184,22 +185,22 @@ pub fn load(
     ensures { λ r. ⌜ Loads (now (image .entry)) (slices (now (bytes .entry)) (now (ends .entry)) (now (kinds .entry)) (now (payloads .entry)) (now (table .entry))) r (slices (now (bytes .exit)) (now (ends .exit)) (now (kinds .exit)) (now (payloads .exit)) (now (table .exit))) ⌝ }
 {
     let small = LoadAnswer::Refused(Reason::ShortSlice, 0);
-    if bytes.len() < 32768 {
+    if bytes.len() < least::BYTES {
         return small;
     }
-    if ends.len() < 256 {
+    if ends.len() < least::ENDS {
         return small;
     }
-    if kinds.len() < 13107 {
+    if kinds.len() < least::KINDS {
         return small;
     }
-    if payloads.len() < 13107 {
+    if payloads.len() < least::PAYLOADS {
         return small;
     }
-    if table.len() < 260 {
+    if table.len() < least::TABLE {
         return small;
     }
-    if 65536 < image.len() {
+    if IMAGE_MOST < image.len() {
         return LoadAnswer::Refused(Reason::TooLong, 0);
     }
     load_roomy(image, bytes, ends, kinds, payloads, table)

@@ -9,7 +9,9 @@ mod list;
 ghost use Prim.Native.Nat.{_≤_};
 use case_list::after;
 use case_list::put;
+use image::IMAGE_MOST;
 use image::LoadAnswer;
+use image::least;
 use image::load;
 use libc::STDOUT_FILENO;
 use line_digits::hex;
@@ -92,11 +94,11 @@ fn spell(a: LoadAnswer, out: &mut [u8]) -> usize {
 
 // The answer for an image, as the list has it, at the start of `out`; its length.
 fn answer(image: &[u8], out: &mut [u8]) -> usize {
-    let mut bytes = [0u8; 32768];
-    let mut ends = [0usize; 256];
-    let mut kinds = [0u8; 13107];
-    let mut payloads = [0u64; 13107];
-    let mut table = [0usize; 260];
+    let mut bytes = [0u8; least::BYTES];
+    let mut ends = [0usize; least::ENDS];
+    let mut kinds = [0u8; least::KINDS];
+    let mut payloads = [0u64; least::PAYLOADS];
+    let mut table = [0usize; least::TABLE];
     let a = load(
         image,
         &mut bytes,
@@ -225,16 +227,16 @@ fn is_short(a: LoadAnswer) -> u64 {
 
 // How many of the five slices are refused where each in turn is one element too short.
 fn short_slices() -> u64 {
-    let mut b = [0u8; 32768];
-    let mut e = [0usize; 256];
-    let mut k = [0u8; 13107];
-    let mut p = [0u64; 13107];
-    let mut t = [0usize; 260];
-    let mut b1 = [0u8; 32767];
-    let mut e1 = [0usize; 255];
-    let mut k1 = [0u8; 13106];
-    let mut p1 = [0u64; 13106];
-    let mut t1 = [0usize; 259];
+    let mut b = [0u8; least::BYTES];
+    let mut e = [0usize; least::ENDS];
+    let mut k = [0u8; least::KINDS];
+    let mut p = [0u64; least::PAYLOADS];
+    let mut t = [0usize; least::TABLE];
+    let mut b1 = [0u8; least::BYTES - 1];
+    let mut e1 = [0usize; least::ENDS - 1];
+    let mut k1 = [0u8; least::KINDS - 1];
+    let mut p1 = [0u64; least::PAYLOADS - 1];
+    let mut t1 = [0usize; least::TABLE - 1];
     let n = is_short(load(b"", &mut b1, &mut e, &mut k, &mut p, &mut t));
     let n = wrapping_add_u64(
         n,
@@ -262,9 +264,9 @@ fn print_count(what: &[u8], n: u64) {
 
 // The images that are too long for a list: line feeds, one more than an image may have, and as many as it may have.
 fn by_rule(t: Tally) -> Tally {
-    let long = [10u8; 65537];
+    let long = [10u8; IMAGE_MOST + 1];
     let t = judge(t, &long, b"= refused 1 0");
-    let whole = [10u8; 65536];
+    let whole = [10u8; IMAGE_MOST];
     judge(t, &whole, b"= refused 2 1")
 }
 

@@ -1,4 +1,5 @@
 // Check: loads the image, judges it by the stack check, and clears all work memory.
+pub mod least; // the least lengths of its own work slices
 mod numbers_of; // document 01's numbers of the answers
 
 pub use numbers_of::chunk_of;
@@ -36,15 +37,14 @@ fn check_loaded(
     requires { ⌜ Ready (now bytes) (now kinds) (now table) chunks (now heights) (now depths) (now todo) ⌝ }
     ensures { λ r. ⌜ Judges (now (bytes .entry)) (now (kinds .entry)) (now (table .entry)) chunks r ⌝ }
 {
-    let most = 4096;
     match check_image(
         bytes,
         kinds,
         table,
         chunks,
-        &mut heights[..most],
-        &mut depths[..most],
-        &mut todo[..most],
+        &mut heights[..least::HEIGHTS],
+        &mut depths[..least::DEPTHS],
+        &mut todo[..least::TODO],
     ) {
         stack_check::CheckAnswer::Pass => CheckAnswer::Pass,
         stack_check::CheckAnswer::Fault(why, chunk, at) => CheckAnswer::Fault(why, chunk, at),
@@ -66,13 +66,13 @@ fn judge(
     ensures { λ r. ⌜ Checks (now (image .entry)) (checkWork (slices (now (bytes .entry)) (now (ends .entry)) (now (kinds .entry)) (now (payloads .entry)) (now (table .entry))) (now (heights .entry)) (now (depths .entry)) (now (todo .entry))) r ⌝ }
 {
     let small = CheckAnswer::Refused(image::Reason::ShortSlice, 0);
-    if heights.len() < 4096 {
+    if heights.len() < least::HEIGHTS {
         return small;
     }
-    if depths.len() < 4096 {
+    if depths.len() < least::DEPTHS {
         return small;
     }
-    if todo.len() < 4096 {
+    if todo.len() < least::TODO {
         return small;
     }
     match load(image, bytes, ends, kinds, payloads, table) {

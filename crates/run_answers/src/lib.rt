@@ -1,5 +1,6 @@
 // What a run answers, and what it leaves in memory (specs/Run.antt): its end coded into the result slice, the numbers of its answers, and its own work
 // memory judged and cleared.
+pub mod least; // the least lengths of its own work slices
 mod run_numbers; // document 01's numbers of the answers
 
 pub use run_numbers::run_chunk;
@@ -49,28 +50,28 @@ pub fn any_short(
 ) -> bool
     ensures { λ r. ⌜ r ≡ anyShort texts classes stack locals starts globals cells memo ⌝ }
 {
-    if texts < 257 {
+    if texts < least::TEXTS {
         return true;
     }
-    if classes < 65 {
+    if classes < least::CLASSES {
         return true;
     }
-    if stack < 512 {
+    if stack < least::STACK {
         return true;
     }
-    if locals < 2048 {
+    if locals < least::LOCALS {
         return true;
     }
-    if starts < 256 {
+    if starts < least::STARTS {
         return true;
     }
-    if globals < 512 {
+    if globals < least::GLOBALS {
         return true;
     }
-    if cells < 8192 {
+    if cells < least::CELLS {
         return true;
     }
-    memo < 4096
+    memo < least::MEMO
 }
 
 // What the run was lent besides the slices of `load`.

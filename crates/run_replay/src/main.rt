@@ -10,6 +10,7 @@ use case_list::put;
 use libc::STDOUT_FILENO;
 use line_digits::line_end;
 use rl_vm::RunAnswer;
+use rl_vm::least;
 use rl_vm::refusal_number;
 use rl_vm::run;
 use rl_vm::stop_number;
@@ -27,6 +28,9 @@ struct Word {
     value: usize,
     next: usize,
 }
+
+// The longest result slice that a case may ask for: the runner's.
+const MOST_ROOM: usize = 4096;
 
 // Puts a word and the decimal digits of n behind it, as far as there is room.
 fn put_number(out: &mut [u8], at: usize, word: &[u8], n: usize) -> usize
@@ -206,19 +210,19 @@ fn number(line: &[u8], at: usize) -> Word {
 
 // Whether the run of an image, with this budget and this result slice, answers what the line says from `from` on.
 fn runs_as(image: &[u8], budget: usize, result: &mut [u8], line: &[u8], from: usize) -> bool {
-    let mut bytes = [0u8; 32768];
-    let mut ends = [0usize; 256];
-    let mut kinds = [0u8; 13107];
-    let mut payloads = [0u64; 13107];
-    let mut table = [0usize; 260];
-    let mut texts = [0u64; 257];
-    let mut classes = [0u64; 65];
-    let mut stack = [0u64; 512];
-    let mut locals = [0u64; 2048];
-    let mut starts = [0usize; 256];
-    let mut globals = [0u64; 512];
-    let mut cells = [0u64; 8192];
-    let mut memo = [0u16; 4096];
+    let mut bytes = [0u8; least::BYTES];
+    let mut ends = [0usize; least::ENDS];
+    let mut kinds = [0u8; least::KINDS];
+    let mut payloads = [0u64; least::PAYLOADS];
+    let mut table = [0usize; least::TABLE];
+    let mut texts = [0u64; least::TEXTS];
+    let mut classes = [0u64; least::CLASSES];
+    let mut stack = [0u64; least::STACK];
+    let mut locals = [0u64; least::LOCALS];
+    let mut starts = [0usize; least::STARTS];
+    let mut globals = [0u64; least::GLOBALS];
+    let mut cells = [0u64; least::CELLS];
+    let mut memo = [0u16; least::MEMO];
     let a = run(
         image,
         budget,
@@ -287,7 +291,7 @@ fn judge(t: Tally, image: &[u8], line: &[u8]) -> Tally {
     let budget = number(line, 2);
     let room = number(line, budget.next);
     let from = room.next;
-    let mut result = [0u8; 4096];
+    let mut result = [0u8; MOST_ROOM];
     if result.len() < room.value {
         return one_malformed(t);
     }

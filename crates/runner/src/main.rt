@@ -1,5 +1,5 @@
-// The runner: an image on standard input, one line on standard output (docs/OPERATIONS.md). The budget is 1,000,000 instructions, the result has
-// at most 4,096 bytes. It reads one byte more than an image may have; so an input of any length beyond that is refused with 1.
+// The runner: an image on standard input, one line on standard output (docs/OPERATIONS.md). It reads one byte more than an image may have; so an
+// input of any length beyond that is refused with 1.
 mod lines; // the line of an answer
 
 ghost use mathlib.Core.List.{List};
@@ -13,30 +13,37 @@ use image_input::input_of;
 use image_input::read_input;
 use line_output::write_line;
 use lines::spell;
+use rl_vm::IMAGE_MOST;
+use rl_vm::least;
 use rl_vm::run;
+
+// How many instructions a run may begin, and how many bytes its result may have: document 01's, of the runner.
+const BUDGET: usize = 1000000;
+
+const RESULT: usize = 4096;
 
 // The line for an image, at the start of `out`, and where it ends.
 fn answer_line(image: &[u8], out: &mut [u8]) -> usize
     requires { ⌜ 8224 ≤ length (now out) ⌝ }
     ensures { λ r. ⌜ Puts (now (out .entry)) 0 (runnerLine (now (image .entry))) (now (out .exit)) r ⌝ }
 {
-    let mut result = [0u8; 4096];
-    let mut bytes = [0u8; 32768];
-    let mut ends = [0usize; 256];
-    let mut kinds = [0u8; 13107];
-    let mut payloads = [0u64; 13107];
-    let mut table = [0usize; 260];
-    let mut texts = [0u64; 257];
-    let mut classes = [0u64; 65];
-    let mut stack = [0u64; 512];
-    let mut locals = [0u64; 2048];
-    let mut starts = [0usize; 256];
-    let mut globals = [0u64; 512];
-    let mut cells = [0u64; 8192];
-    let mut memo = [0u16; 4096];
+    let mut result = [0u8; RESULT];
+    let mut bytes = [0u8; least::BYTES];
+    let mut ends = [0usize; least::ENDS];
+    let mut kinds = [0u8; least::KINDS];
+    let mut payloads = [0u64; least::PAYLOADS];
+    let mut table = [0usize; least::TABLE];
+    let mut texts = [0u64; least::TEXTS];
+    let mut classes = [0u64; least::CLASSES];
+    let mut stack = [0u64; least::STACK];
+    let mut locals = [0u64; least::LOCALS];
+    let mut starts = [0usize; least::STARTS];
+    let mut globals = [0u64; least::GLOBALS];
+    let mut cells = [0u64; least::CELLS];
+    let mut memo = [0u16; least::MEMO];
     let a = run(
         image,
-        1000000,
+        BUDGET,
         &mut result,
         &mut bytes,
         &mut ends,
@@ -65,7 +72,7 @@ fn input_line(read: &[u8], n: usize, out: &mut [u8]) -> usize
 }
 
 fn main() {
-    let mut read = [0u8; 65537];
+    let mut read = [0u8; IMAGE_MOST + 1];
     let mut line = [0u8; 8224];
     match input_of(read_input(b"runner", &mut read)) {
         Input::Bytes(n) => {

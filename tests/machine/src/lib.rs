@@ -1,6 +1,10 @@
 //! The linked machine (bindings/rust) as tests ask it: on work memory of any lengths, with anything in it,
 //! that is looked at afterwards; and its answers as the lines of the built programs.
 
+#[macro_use]
+#[path = "../../../bindings/rust/src/slices.rs"]
+mod slices;
+
 mod memory;
 
 use memory::{CheckMemory, RunMemory};

@@ -4,7 +4,7 @@ use rl_vm::{CheckWork, RunWork, least};
 
 /// Declares memory for the slices of an operation, by their names, elements and least lengths.
 macro_rules! memory {
-    ($name:ident for $work:ident [$($slice:ident: $element:ty = $least:expr),* $(,)?]) => {
+    ($name:ident for $work:ident [$($slice:ident: $element:ty = $least:expr,)*]) => {
         pub struct $name {
             $($slice: Vec<$element>,)*
         }
@@ -39,33 +39,6 @@ macro_rules! memory {
     };
 }
 
-memory! {
-    CheckMemory for CheckWork [
-        bytes: u8 = least::BYTES,
-        ends: usize = least::ENDS,
-        kinds: u8 = least::KINDS,
-        payloads: u64 = least::PAYLOADS,
-        table: usize = least::TABLE,
-        heights: usize = least::HEIGHTS,
-        depths: usize = least::DEPTHS,
-        todo: usize = least::TODO,
-    ]
-}
+check_slices! { memory! { CheckMemory for CheckWork } }
 
-memory! {
-    RunMemory for RunWork [
-        bytes: u8 = least::BYTES,
-        ends: usize = least::ENDS,
-        kinds: u8 = least::KINDS,
-        payloads: u64 = least::PAYLOADS,
-        table: usize = least::TABLE,
-        texts: u64 = least::TEXTS,
-        classes: u64 = least::CLASSES,
-        stack: u64 = least::STACK,
-        locals: u64 = least::LOCALS,
-        starts: usize = least::STARTS,
-        globals: u64 = least::GLOBALS,
-        cells: u64 = least::CELLS,
-        memo: u16 = least::MEMO,
-    ]
-}
+run_slices! { memory! { RunMemory for RunWork } }

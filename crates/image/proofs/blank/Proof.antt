@@ -7,109 +7,88 @@ use Rattle.image.proofs.Blanking.{cleared, same-slices}
 use Rattle.image.proofs.blank.Statement.{statement}
 use Rattle.image.proofs.blank.Tie as tie
 
--- src/lib.rt:138:14
 slice-relend-prefix-clear-u8 : tie.Need-slice-relend-prefix-clear-u8
 slice-relend-prefix-clear-u8 c =
     let pre = c .before .before .before .before .before .pre in
     omega (arith, pre .room-bytes)
 
--- src/lib.rt:138:14
 slice-aggregate-clear-u8 : tie.Need-slice-aggregate-clear-u8
 slice-aggregate-clear-u8 c =
     let start = c .before .before .before .before .before .before in
     sym (length-take-le _ (start .args .bytes .now) (omega (arith, start .pre .room-bytes)))
 
--- src/lib.rt:138:5
 clear-u8-requires : tie.Need-clear-u8-requires
 clear-u8-requires c κs = search needs
 
--- src/lib.rt:139:17
 slice-relend-prefix-clear-usize : tie.Need-slice-relend-prefix-clear-usize
 slice-relend-prefix-clear-usize c =
     let pre = c .before .before .before .before .before .before .before .before .before .pre in
     omega (arith, pre .room-ends)
 
--- src/lib.rt:139:17
 slice-aggregate-clear-usize : tie.Need-slice-aggregate-clear-usize
 slice-aggregate-clear-usize c =
     let start = c .before .before .before .before .before .before .before .before .before .before in
     sym (length-take-le _ (start .args .ends .now) (omega (arith, start .pre .room-ends)))
 
--- src/lib.rt:139:5
 clear-usize-requires : tie.Need-clear-usize-requires
 clear-usize-requires c κs = search needs
 
--- src/lib.rt:140:14
 slice-relend-prefix-clear-u8-2 : tie.Need-slice-relend-prefix-clear-u8-2
 slice-relend-prefix-clear-u8-2 c =
     let pre = c .before .before .before .before .before .before .before .before .before .before .before .before .before .pre in
     omega (arith, pre .room-kinds)
 
--- src/lib.rt:140:14
 slice-aggregate-clear-u8-2 : tie.Need-slice-aggregate-clear-u8-2
 slice-aggregate-clear-u8-2 c =
     let start = c .before .before .before .before .before .before .before .before .before .before .before .before .before .before in
     sym (length-take-le _ (start .args .kinds .now) (omega (arith, start .pre .room-kinds)))
 
--- src/lib.rt:140:5
 clear-u8-requires-2 : tie.Need-clear-u8-requires-2
 clear-u8-requires-2 c κs = search needs
 
--- src/lib.rt:141:15
 slice-relend-prefix-clear-u64 : tie.Need-slice-relend-prefix-clear-u64
 slice-relend-prefix-clear-u64 c =
     let pre = c .before .before .before .before .before .before .before .before .before .before .before .before .before .before .before .before .before .pre in
     omega (arith, pre .room-payloads)
 
--- src/lib.rt:141:15
 slice-aggregate-clear-u64 : tie.Need-slice-aggregate-clear-u64
 slice-aggregate-clear-u64 c =
     let start = c .before .before .before .before .before .before .before .before .before .before .before .before .before .before .before .before .before .before in
     sym (length-take-le _ (start .args .payloads .now) (omega (arith, start .pre .room-payloads)))
 
--- src/lib.rt:141:5
 clear-u64-requires : tie.Need-clear-u64-requires
 clear-u64-requires c κs = search needs
 
--- src/lib.rt:142:17
 slice-relend-prefix-clear-usize-2 : tie.Need-slice-relend-prefix-clear-usize-2
 slice-relend-prefix-clear-usize-2 c =
     let pre = c .before .before .before .before .before .before .before .before .before .before .before .before .before .before .before .before .before .before .before .before .before .pre
     in
     omega (arith, pre .room-table)
 
--- src/lib.rt:142:17
 slice-aggregate-clear-usize-2 : tie.Need-slice-aggregate-clear-usize-2
 slice-aggregate-clear-usize-2 c =
     let start = c .before .before .before .before .before .before .before .before .before .before .before .before .before .before .before .before .before .before .before .before .before .before
     in
     sym (length-take-le _ (start .args .table .now) (omega (arith, start .pre .room-table)))
 
--- src/lib.rt:142:5
 clear-usize-requires-2 : tie.Need-clear-usize-requires-2
 clear-usize-requires-2 c κs = search needs
 
--- src/lib.rt:124:1
 same-length : tie.Need-same-length
 same-length c = search needs
 
--- src/lib.rt:124:1
 same-length-2 : tie.Need-same-length-2
 same-length-2 c = search needs
 
--- src/lib.rt:124:1
 same-length-3 : tie.Need-same-length-3
 same-length-3 c = search needs
 
--- src/lib.rt:124:1
 same-length-4 : tie.Need-same-length-4
 same-length-4 c = search needs
 
--- src/lib.rt:124:1
 same-length-5 : tie.Need-same-length-5
 same-length-5 c = search needs
 
--- src/lib.rt:124:1
 returns : tie.Need-returns
 returns c =
     let clear-usize2 = c .before .before .clear-usize2 in

@@ -5,39 +5,30 @@ use Rattle.image.proofs.Reading.{settled-refused, settled-loaded}
 use Rattle.image.proofs.load_roomy.Statement.{statement}
 use Rattle.image.proofs.load_roomy.Tie as tie
 
--- src/lib.rt:166:9
 load-lines-requires : tie.Need-load-lines-requires
 load-lines-requires c κs = search needs
 
--- src/lib.rt:167:8
 is-refused-requires : tie.Need-is-refused-requires
 is-refused-requires c κs = search needs
 
--- src/lib.rt:168:9
 blank-requires : tie.Need-blank-requires
 blank-requires c κs = search needs
 
--- src/lib.rt:169:9
 same-length : tie.Need-same-length
 same-length c = search needs
 
--- src/lib.rt:169:9
 same-length-2 : tie.Need-same-length-2
 same-length-2 c = search needs
 
--- src/lib.rt:169:9
 same-length-3 : tie.Need-same-length-3
 same-length-3 c = search needs
 
--- src/lib.rt:169:9
 same-length-4 : tie.Need-same-length-4
 same-length-4 c = search needs
 
--- src/lib.rt:169:9
 same-length-5 : tie.Need-same-length-5
 same-length-5 c = search needs
 
--- src/lib.rt:169:9
 returns : tie.Need-returns
 returns c =
     let blank2 = c .before .before .before .before .before .before .before .before .before .before .blank in
@@ -46,27 +37,21 @@ returns c =
     .before .before .before .before .before .before .before .before .before .before .before .before .load-lines in
     settled-refused _ _ _ _ (read .result) (read .ensures) (sym (test .before .is-refused .ensures) ∙ test .if1 .taken) (blank2 .ensures)
 
--- src/lib.rt:155:1
 same-length-6 : tie.Need-same-length-6
 same-length-6 c = search needs
 
--- src/lib.rt:155:1
 same-length-7 : tie.Need-same-length-7
 same-length-7 c = search needs
 
--- src/lib.rt:155:1
 same-length-8 : tie.Need-same-length-8
 same-length-8 c = search needs
 
--- src/lib.rt:155:1
 same-length-9 : tie.Need-same-length-9
 same-length-9 c = search needs
 
--- src/lib.rt:155:1
 same-length-10 : tie.Need-same-length-10
 same-length-10 c = search needs
 
--- src/lib.rt:155:1
 returns-2 : tie.Need-returns-2
 returns-2 c =
     let read = c .before .before .before .before .before .before .before .before .before .before .before .before .load-lines in
