@@ -22,10 +22,10 @@ use Rattle.image_records.specs.declared.State.{State}
 use Rattle.image_records.specs.declared.Record.{Record}
 use Rattle.image_records.specs.declared.Record.the-variants.{Text, Opens, Constant, Code, Ends, Fault}
 use Rattle.image_store.specs.Stored.{advance, Fine, Accepted, finishOf}
-use Rattle.image_store.specs.declared.Turn.{Turn}
-use Rattle.image_store.specs.declared.Turn.the-variants.{Next, Ready, Stop}
+use Rattle.image_store.specs.declared.AfterLine.{AfterLine}
+use Rattle.image_store.specs.declared.AfterLine.the-variants.{Next, Ready, Stop}
 use Rattle.image.specs.Answer.{Slices, holds, refuses, encoded, short, loadIn, Behind, BehindMost, blanked, Loads}
-use Rattle.image.specs.Turns.{
+use Rattle.image.specs.Lines.{
   Parts,
   none-yet,
   grow,
@@ -39,11 +39,11 @@ use Rattle.image.specs.Turns.{
   partsOf,
   LoadRoomy,
   Sized,
-  turnOf,
+  afterLine,
   BehindState,
-  TurnFits,
+  AfterLineFits,
   Grows,
-  TurnLeft,
+  AfterLineLeft,
   TakesLine,
   LoadsLines,
   isRefused,
@@ -156,7 +156,7 @@ behind-most s m m′ w b =
 
 -- what a record leads to
 module _ (image b : List ℕ) (p : Parts) (t : State) (k next left : ℕ) (last : Bool) (m : Slices) where
-  closed : (v w : Bool) → turnOf (cond v (cond w (Ready t) (Stop NoSuchChunk 0)) (Stop NoEnd 0)) image k m ≡ cond v (cond w (holds (countsIn t)
+  closed : (v w : Bool) → afterLine (cond v (cond w (Ready t) (Stop NoSuchChunk 0)) (Stop NoEnd 0)) image k m ≡ cond v (cond w (holds (countsIn t)
       (heldBy t m)) (refuses 7 0)) (refuses 6 0)
   closed true true = refl
   closed true false = refl
@@ -164,7 +164,7 @@ module _ (image b : List ℕ) (p : Parts) (t : State) (k next left : ℕ) (last 
 
   settled :
       (r : Record) → last ≡ eqb left 0 → partsOf t m ≡ grow p (says r b)
-      → turnOf (finishOf r t next left (k + 1)) image k m ≡ onRecord p (k + 1) last (λ q. goes (split (drop next image)) q (k + 1)) (says r b)
+      → afterLine (finishOf r t next left (k + 1)) image k m ≡ onRecord p (k + 1) last (λ q. goes (split (drop next image)) q (k + 1)) (says r b)
   settled Text e g = ap (λ q. goes (split (drop next image)) q (k + 1)) g
   settled (Opens arity name) e g = ap (λ q. goes (split (drop next image)) q (k + 1)) g
   settled (Constant kind v) e g = ap (λ q. goes (split (drop next image)) q (k + 1)) g
@@ -175,8 +175,8 @@ module _ (image b : List ℕ) (p : Parts) (t : State) (k next left : ℕ) (last 
 -- the bounds after a line
 module _ (s : State) (b : List ℕ) (at end size : ℕ) (sized : Sized s at) (digits : 2 * (length b + 1) ≡ end - at) (order : at ≤ end) (within : end <
     size) (small : size ≤ 65536) where
-  turn-fits : (r : Record) (left k : ℕ) → Fine s (length b) r → TurnFits (finishOf r (advance s (says r b)) (end + 1) left k) at size
-  turn-fits Text left k h = (
+  after-fits : (r : Record) (left k : ℕ) → Fine s (length b) r → AfterLineFits (finishOf r (advance s (says r b)) (end + 1) left k) at size
+  after-fits Text left k h = (
     record {
       few-bytes = omega arith;
       few-constants = omega arith;
@@ -189,7 +189,7 @@ module _ (s : State) (b : List ℕ) (at end size : ℕ) (sized : Sized s at) (di
     omega arith,
     omega arith,
   )
-  turn-fits (Opens arity name) left k h = (
+  after-fits (Opens arity name) left k h = (
     record {
       few-bytes = omega arith;
       few-constants = omega arith;
@@ -203,7 +203,7 @@ module _ (s : State) (b : List ℕ) (at end size : ℕ) (sized : Sized s at) (di
     omega arith,
     omega arith,
   )
-  turn-fits (Constant kind v) left k h = (
+  after-fits (Constant kind v) left k h = (
     record {
       few-bytes = omega arith;
       few-constants = omega (arith, h .1);
@@ -217,7 +217,7 @@ module _ (s : State) (b : List ℕ) (at end size : ℕ) (sized : Sized s at) (di
     omega
         arith,
   )
-  turn-fits Code left k h = (
+  after-fits Code left k h = (
     record {
       few-bytes = omega arith;
       few-constants = omega arith;
@@ -230,11 +230,11 @@ module _ (s : State) (b : List ℕ) (at end size : ℕ) (sized : Sized s at) (di
     omega arith,
     omega arith,
   )
-  turn-fits Ends left k h =
-      cond-elim (λ r. TurnFits r at size) (eqb left 0)
-      (λ _. cond-elim (λ r. TurnFits r at size) (ltb (s .named) (s .chunks)) (λ _. omega (arith, sized .as-rows)) (λ _. tt))
+  after-fits Ends left k h =
+      cond-elim (λ r. AfterLineFits r at size) (eqb left 0)
+      (λ _. cond-elim (λ r. AfterLineFits r at size) (ltb (s .named) (s .chunks)) (λ _. omega (arith, sized .as-rows)) (λ _. tt))
       (λ _. tt)
-  turn-fits (Fault f) left k h = tt
+  after-fits (Fault f) left k h = tt
 
   state-within : (r : Record) → Fine s (length b) r → Within (advance s (says r b))
   state-within Text h = record {
@@ -286,16 +286,16 @@ grows s b Ends = record { more-texts = omega arith; more-constants = omega arith
 grows s b (Fault f) = record { more-texts = omega arith; more-constants = omega arith; more-rows = omega arith }
 
 module _ (s t : State) (m m′ : Slices) (g : Grows s t) (b : BehindState t m m′) (w : Within t) where
-  turn-left : (r : Record) (next left k : ℕ) → TurnLeft (finishOf r t next left k) s m m′
-  turn-left Text next left k = (g, b)
-  turn-left (Opens arity name) next left k = (g, b)
-  turn-left (Constant kind v) next left k = (g, b)
-  turn-left Code next left k = (g, b)
-  turn-left Ends next left k =
-      cond-elim (λ r. TurnLeft r s m m′) (eqb left 0)
-      (λ _. cond-elim (λ r. TurnLeft r s m m′) (ltb (t .named) (t .chunks)) (λ _. (g, b)) (λ _. behind-most t m m′ w b))
+  after-left : (r : Record) (next left k : ℕ) → AfterLineLeft (finishOf r t next left k) s m m′
+  after-left Text next left k = (g, b)
+  after-left (Opens arity name) next left k = (g, b)
+  after-left (Constant kind v) next left k = (g, b)
+  after-left Code next left k = (g, b)
+  after-left Ends next left k =
+      cond-elim (λ r. AfterLineLeft r s m m′) (eqb left 0)
+      (λ _. cond-elim (λ r. AfterLineLeft r s m m′) (ltb (t .named) (t .chunks)) (λ _. (g, b)) (λ _. behind-most t m m′ w b))
       (λ _. behind-most t m m′ w b)
-  turn-left (Fault f) next left k = behind-most t m m′ w b
+  after-left (Fault f) next left k = behind-most t m m′ w b
 
 -- what a good line gives
 pub record ReadGood (image out : List ℕ) (t n at end room : ℕ) : Type 0 where
@@ -361,7 +361,7 @@ pub open-line :
     (image : List ℕ) (s : State) (at end k : ℕ) (m : Slices) → at ≤ end → ((j : ℕ) → at ≤ j → j < end → getD image j 0 ≡ 10 → ⊥)
     → at < length image → end ≡ length image → TakesLine image s at k m (Stop BadLine (k + 1)) m
 open-line image s at end k m order free h e =
-    record { turn = no-feed image (partsOf s m) at end k order free h e; fits = tt; left = behind-same 32768 256 13107 260 m }
+    record { after = no-feed image (partsOf s m) at end k order free h e; fits = tt; left = behind-same 32768 256 13107 260 m }
 
 pub bad-line :
     (image : List ℕ) (s : State) (r : Read) (out : List ℕ) (at end k : ℕ) (m m′ : Slices) → r ≡ Faulty → at ≤ end
@@ -369,7 +369,7 @@ pub bad-line :
     → readOf r out ≡ lineOf (take (end - at) (drop at image)) → BehindMost m m′ → TakesLine image s at k m (Stop BadLine (k + 1)) m′
 bad-line image s r out at end k m m′ e order free h f says b =
     let z : faulty ≡ lineOf (take (end - at) (drop at image)) = rw e at says in
-    record { turn = sym (one-line image (partsOf s m) at end k order free h f ∙ rw (← z)); fits = tt; left = b }
+    record { after = sym (one-line image (partsOf s m) at end k order free h f ∙ rw (← z)); fits = tt; left = b }
 
 line-as : (x y : Line) → x ≡ y → LineBytes y → LineBytes x
 line-as x y e h = rw e h
@@ -399,7 +399,7 @@ fine-here image B out post s at end n tag r small room item good =
 
 -- a good line
 module _
-    (image B out post e k p t e′ k′ p′ t′ : List ℕ) (s s2 : State) (at end n tag ln : ℕ) (r : Record) (u : Turn)
+    (image B out post e k p t e′ k′ p′ t′ : List ℕ) (s s2 : State) (at end n tag ln : ℕ) (r : Record) (u : AfterLine)
     (small : s .bytes ≤ length B) (room : n ≤ length out)
     (order : at ≤ end) (h : end < length image)
     (item : says r (take (s .bytes + n - s .bytes) (drop (s .bytes) (take (s .bytes) B ++ (out ++ post)))) ≡ recordOf (seenOf s) tag (take (s .bytes +
@@ -424,7 +424,7 @@ module _
     long : length (take n out) ≡ n
     long = length-take-le n out room
 
-    turned : turnOf u image ln after ≡ goes (split (drop at image)) (partsOf s before) ln
+    turned : afterLine u image ln after ≡ goes (split (drop at image)) (partsOf s before) ln
     turned =
         rw res
         (settled image (take n out) (partsOf s before) s2 ln (end + 1) (length image - (end + 1)) (eqb (length image - (end + 1)) 0) after r refl
@@ -444,11 +444,11 @@ module _
     pub line-taken : TakesLine image s at ln before u after
     line-taken =
         record {
-          turn = turned;
-          fits = rw (res, state) (turn-fits s (take n out) at end (length image) sized two order h few r (length image - (end + 1)) (ln + 1) keeps);
+          after = turned;
+          fits = rw (res, state) (after-fits s (take n out) at end (length image) sized two order h few r (length image - (end + 1)) (ln + 1) keeps);
           left =
               rw res
-              (turn-left s s2 before after (rw state (grows s (take n out) r))
+              (after-left s s2 before after (rw state (grows s (take n out) r))
               (record { same-bytes = kept; same-ends = took .behind-ends; same-kinds = took .behind-kinds; same-payloads = took .behind-payloads; same-table = took .behind-table })
               (rw state (state-within s (take n out) at end (length image) sized two order h few r keeps)) r (end + 1) (length image - (end + 1)) (ln + 1));
         }
@@ -501,7 +501,7 @@ roomy-kept m m′ l r =
     }
 
 module _
-    (image : List ℕ) (m₀ m m′ : Slices) (s : State) (at k : ℕ) (u : Turn)
+    (image : List ℕ) (m₀ m m′ : Slices) (s : State) (at k : ℕ) (u : AfterLine)
     (was : Reading image m₀ m s at k) (took : TakesLine image s at k m u m′)
   where
     pub reading-next : (t : State) (next : ℕ) → u ≡ Next t next → SameLengths m m′ → Reading image m₀ m′ t next (k + 1)
@@ -510,7 +510,7 @@ module _
         let b = rw q at (took .left) in
         let g = was .counted in
         record {
-          here = (rw q at (took .turn)) ∙ was .here;
+          here = (rw q at (took .after)) ∙ was .here;
           roomy = roomy-kept m m′ l (was .roomy);
           sized = f .0;
           within = f .2;
@@ -527,7 +527,7 @@ module _
         let b = rw q at (took .left) in
         let z : 4 * (t .chunks + 1) ≡ 4 * t .rows = omega (arith, f) in
         record {
-          answer = rw z ((rw q at (took .turn)) ∙ was .here);
+          answer = rw z ((rw q at (took .after)) ∙ was .here);
           left = rw z (behind-next s t m₀ m m′ (was .behind) (b .0) (b .1));
         }
 
@@ -535,7 +535,7 @@ module _
     reading-stop r l q h =
         let n : at ≤ 65536 = omega (arith, was .within) in
         record {
-          answer = (rw q at (took .turn)) ∙ was .here;
+          answer = (rw q at (took .after)) ∙ was .here;
           left = behind-both 32768 256 13107 260 m₀ m m′ (behind-most s m₀ m (sized-within s at n (was .sized)) (was .behind)) (rw q at (took .left));
         }
 

@@ -1,3 +1,3 @@
 pub mod Answer
-pub mod Turns
+pub mod Lines
 pub mod Held

@@ -6,7 +6,7 @@ ghost use mathlib.Core.Path.{_≡_};
 ghost use Prim.Native.Nat.{_≤_, _<_};
 ghost use lib.ListN.{length};
 ghost use Rattle.image.specs.Answer.{slices, blanked, Loads};
-ghost use Rattle.image.specs.Turns.{LoadRoomy, Sized, TakesLine, LoadsLines, isRefused, LoadsSettled};
+ghost use Rattle.image.specs.Lines.{LoadRoomy, Sized, TakesLine, LoadsLines, isRefused, LoadsSettled};
 use clearing::clear_u8;
 use clearing::clear_u64;
 use clearing::clear_usize;
@@ -14,7 +14,7 @@ use image_records::Part;
 pub use image_records::Reason;
 use image_records::State;
 use image_records::record_of;
-use image_store::Turn;
+use image_store::AfterLine;
 use image_store::accept;
 use image_store::finish;
 use line_digits::Read;
@@ -50,20 +50,20 @@ fn take_line(
     s: State,
     at: usize,
     k: usize,
-) -> Turn
+) -> AfterLine
     requires { ⌜ (at < length (now image)) × (length (now image) ≤ 65536) × (k ≤ at) × LoadRoomy (slices (now bytes) (now ends) (now kinds) (now payloads) (now table)) × Sized s at ⌝ }
     ensures { λ u. ⌜ TakesLine (now (image .entry)) s at k (slices (now (bytes .entry)) (now (ends .entry)) (now (kinds .entry)) (now (payloads .entry)) (now (table .entry))) u (slices (now (bytes .exit)) (now (ends .exit)) (now (kinds .exit)) (now (payloads .exit)) (now (table .exit))) ⌝ }
 {
     let end = line_end(image, at);
     if end == image.len() {
-        return Turn::Stop {
+        return AfterLine::Stop {
             reason: Reason::BadLine,
             line: k + 1,
         };
     }
     let from = s.bytes;
     match read_line(&image[at..end], &mut bytes[from..]) {
-        Read::Faulty => Turn::Stop {
+        Read::Faulty => AfterLine::Stop {
             reason: Reason::BadLine,
             line: k + 1,
         },
@@ -104,12 +104,12 @@ fn load_lines(
     let mut k = 0;
     while at < image.len() {
         match take_line(image, bytes, ends, kinds, payloads, table, s, at, k) {
-            Turn::Next { state, at: next } => {
+            AfterLine::Next { state, at: next } => {
                 s = state;
                 at = next;
                 k += 1;
             }
-            Turn::Ready(t) => {
+            AfterLine::Ready(t) => {
                 return LoadAnswer::Loaded(Counts {
                     texts: t.texts,
                     chunks: t.chunks,
@@ -117,7 +117,7 @@ fn load_lines(
                     bytes: t.bytes,
                 });
             }
-            Turn::Stop { reason, line } => {
+            AfterLine::Stop { reason, line } => {
                 return LoadAnswer::Refused(reason, line);
             }
         }

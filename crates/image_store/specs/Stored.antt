@@ -14,8 +14,8 @@ use Rattle.image_records.specs.declared.Part.the-variants.{InTexts, InConstants
 use Rattle.image_records.specs.declared.State.{State}
 use Rattle.image_records.specs.declared.Record.{Record}
 use Rattle.image_records.specs.declared.Record.the-variants.{Text, Opens, Constant, Code, Ends, Fault}
-use Rattle.image_store.specs.declared.Turn.{Turn}
-use Rattle.image_store.specs.declared.Turn.the-variants.{Next, Ready, Stop}
+use Rattle.image_store.specs.declared.AfterLine.{AfterLine}
+use Rattle.image_store.specs.declared.AfterLine.the-variants.{Next, Ready, Stop}
 
 -- the numbers after a text of n bytes, a chunk, a constant, n bytes of code, the end
 abbrev pub afterText : State → ℕ → State
@@ -172,7 +172,7 @@ pub record Accepted (s : State) (r : Record) (n : ℕ) (ends kinds payloads tabl
   pub behind-table : drop (4 * t .rows) table′ ≡ drop (4 * t .rows) table
 
 -- what comes after a line that says r: s are the numbers after it, `next` is where the next line begins, and `left` bytes follow
-abbrev pub finishOf : Record → State → ℕ → ℕ → ℕ → Turn
+abbrev pub finishOf : Record → State → ℕ → ℕ → ℕ → AfterLine
 finishOf Text s next left k = Next s next
 finishOf (Opens arity name) s next left k = Next s next
 finishOf (Constant kind v) s next left k = Next s next

@@ -11,7 +11,7 @@ use image_records::Record;
 use image_records::State;
 
 // What a line leads to: the next line, a loaded image, or a refusal.
-pub enum Turn {
+pub enum AfterLine {
     Next { state: State, at: usize },
     Ready(State),
     Stop { reason: Reason, line: usize },
@@ -183,34 +183,34 @@ pub fn accept(
 }
 
 // What comes after a line k that says r.
-pub fn finish(r: Record, s: State, next: usize, left: usize, k: usize) -> Turn
+pub fn finish(r: Record, s: State, next: usize, left: usize, k: usize) -> AfterLine
     ensures { λ t. ⌜ t ≡ finishOf r s next left k ⌝ }
 {
     match r {
-        Record::Text => Turn::Next { state: s, at: next },
-        Record::Opens { arity: _, name: _ } => Turn::Next { state: s, at: next },
+        Record::Text => AfterLine::Next { state: s, at: next },
+        Record::Opens { arity: _, name: _ } => AfterLine::Next { state: s, at: next },
         Record::Constant {
             kind: _,
             payload: _,
-        } => Turn::Next { state: s, at: next },
-        Record::Code => Turn::Next { state: s, at: next },
+        } => AfterLine::Next { state: s, at: next },
+        Record::Code => AfterLine::Next { state: s, at: next },
         Record::Ends => {
             if left == 0 {
                 if s.named < s.chunks as u64 {
-                    Turn::Ready(s)
+                    AfterLine::Ready(s)
                 } else {
-                    Turn::Stop {
+                    AfterLine::Stop {
                         reason: Reason::NoSuchChunk,
                         line: 0,
                     }
                 }
             } else {
-                Turn::Stop {
+                AfterLine::Stop {
                     reason: Reason::NoEnd,
                     line: 0,
                 }
             }
         }
-        Record::Fault(f) => Turn::Stop { reason: f, line: k },
+        Record::Fault(f) => AfterLine::Stop { reason: f, line: k },
     }
 }

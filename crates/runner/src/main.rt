@@ -17,9 +17,10 @@ use rl_vm::IMAGE_MOST;
 use rl_vm::least;
 use rl_vm::run;
 
-// How many instructions a run may begin, and how many bytes its result may have: document 01's, of the runner.
-const BUDGET: usize = 1000000;
+// How many instructions a run may begin: document 01 says it of the runner.
+const BUDGET: usize = 1_000_000;
 
+// How many bytes the result may have: the same.
 const RESULT: usize = 4096;
 
 // The line for an image, at the start of `out`, and where it ends.

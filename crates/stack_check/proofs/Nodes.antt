@@ -19,9 +19,9 @@ use Rattle.chunk.specs.declared.Flow.{Flow}
 use Rattle.chunk.specs.declared.Flow.the-variants.{Straight, Opens, Closes, Forward, Backward, Forks, Ends, MayEnd}
 use Rattle.chunk.specs.declared.Instr.{Instr}
 use Rattle.chunk.proofs.Rows as rows
-use Rattle.stack_check.specs.Node.{turnOf, firstOf, secondOf, nodeOf, nodeAt, NodeIs, Drawn, ofKind}
+use Rattle.stack_check.specs.Node.{flowEffect, firstOf, secondOf, nodeOf, nodeAt, NodeIs, Drawn, ofKind}
 use Rattle.stack_check.specs.Flat.{Changeable}
-use Rattle.stack_check.specs.declared.Turn.{Turn}
+use Rattle.stack_check.specs.declared.FlowEffect.{FlowEffect}
 use Rattle.stack_check.specs.declared.Node.{Node}
 
 pub flow-back : (f : table.Flow) → flowAt (flowNumber f) ≡ flowOf f
@@ -34,7 +34,7 @@ flow-back table.forks = refl
 flow-back table.ends = refl
 flow-back table.mayEnd = refl
 
-opens-by : (f : Flow) → turnOf f .opens ≤ 1
+opens-by : (f : Flow) → flowEffect f .opens ≤ 1
 opens-by Straight = omega arith
 opens-by Opens = omega arith
 opens-by Closes = omega arith
@@ -114,7 +114,8 @@ second-same o table.mayEnd n a e = refl
 
 -- the node that the code makes, from what its calls gave
 pub node-is :
-    (i : Instr) (f : Flow) (t : Turn) (x y : ℕ) (z : ℤ) → f ≡ flowAt (i .row .flow) → t ≡ turnOf f → x ≡ firstOf f (i .next .at) (i .a) → y ≡ secondOf f (i .next .at) (i .a)
+    (i : Instr) (f : Flow) (t : FlowEffect) (x y : ℕ) (z : ℤ) → f ≡ flowAt (i .row .flow) → t ≡ flowEffect f → x ≡ firstOf f (i .next .at) (i .a)
+    → y ≡ secondOf f (i .next .at) (i .a)
     → z ≡ i .row .change -ℤ pos (i .row .per * i .a)
     → NodeIs i (record { need = i .row .need + i .row .per * i .a; change = z; exact = t .exact; drops = t .drops; opens = t .opens; ends = t .ends; first = x; second = y })
 node-is i f t x y z ef et ex ey ez p d e =
@@ -126,8 +127,8 @@ node-is i f t x y z ef et ex ey ez p d e =
     ey ∙ rw (g, e) (second-same o (table.row o .flow) (p + table.size o) (d .a) refl) in
     let n₁ : i .row .need + i .row .per * i .a ≡ table.need o (d .a) = rw e (ap (λ (k : ℕ). table.row o .need + k) (counted-same o (d .a)) ∙ sym (need-is o (d .a))) in
     let z₁ : z ≡ table.change o (d .a) = ez ∙ rw e (ap (λ (k : ℕ). table.row o .change -ℤ pos k) (counted-same o (d .a))) in
-    let t₁ : t ≡ turnOf (flowOf (table.row o .flow)) = et ∙ ap turnOf g in
-    all n₁ z₁ (ap (λ (u : Turn). u .exact) t₁) (ap (λ (u : Turn). u .drops) t₁) (ap (λ (u : Turn). u .opens) t₁) (ap (λ (u : Turn). u .ends) t₁) x₁ y₁
+    let t₁ : t ≡ flowEffect (flowOf (table.row o .flow)) = et ∙ ap flowEffect g in
+    all n₁ z₁ (ap (λ (u : FlowEffect). u .exact) t₁) (ap (λ (u : FlowEffect). u .drops) t₁) (ap (λ (u : FlowEffect). u .opens) t₁) (ap (λ (u : FlowEffect). u .ends) t₁) x₁ y₁
   where
     all :
         {n e d o s x y n′ e′ d′ o′ s′ x′ y′ : ℕ} {z z′ : ℤ} → n ≡ n′ → z ≡ z′ → e ≡ e′ → d ≡ d′ → o ≡ o′ → s ≡ s′ → x ≡ x′ → y ≡ y′
@@ -176,10 +177,10 @@ before-start h = omega arith
 pub fits-in : (n a : ℕ) → n < 9223372036854775808 + 65536 → a < 65536 → n + a ≤ 18446744073709551615
 fits-in n a h l = omega arith
 
-pub turn-is : (r t : Turn) → r .exact ≡ t .exact → r .drops ≡ t .drops → r .opens ≡ t .opens → r .ends ≡ t .ends → r ≡ t
-turn-is r t a b c d = all a b c d
+pub effect-is : (r t : FlowEffect) → r .exact ≡ t .exact → r .drops ≡ t .drops → r .opens ≡ t .opens → r .ends ≡ t .ends → r ≡ t
+effect-is r t a b c d = all a b c d
   where
     all :
         {e d o s e′ d′ o′ s′ : ℕ} → e ≡ e′ → d ≡ d′ → o ≡ o′ → s ≡ s′
-        → _≡_ {A = Turn} (record { exact = e; drops = d; opens = o; ends = s }) (record { exact = e′; drops = d′; opens = o′; ends = s′ })
+        → _≡_ {A = FlowEffect} (record { exact = e; drops = d; opens = o; ends = s }) (record { exact = e′; drops = d′; opens = o′; ends = s′ })
     all a b c d = rw (a, b, c, d)

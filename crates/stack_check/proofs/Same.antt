@@ -13,7 +13,7 @@ use Rattle.definition.specs.StackCheck as rules
 use Rattle.definition.specs.CheckAnswer as answer
 use Rattle.definition.proofs.ChangeOfHeight.{height-is}
 use Rattle.chunk.specs.Table.{flowOf}
-use Rattle.stack_check.specs.Node.{turnOf, nodeBy, nodeOf, nodeAt}
+use Rattle.stack_check.specs.Node.{flowEffect, nodeBy, nodeOf, nodeAt}
 use Rattle.stack_check.specs.Flat.{Goes, Reach, Comes, Fit, Obeys, Assigned, NoFault, Lowest, heightAfter, depthAfter}
 
 -- where control goes
@@ -44,7 +44,7 @@ after-goes : (p t : ℕ) (i : Instr) → rules.After (i .op) (i .a) p t → Goes
 after-goes p t i g = after-by (table.row (i .op) .flow) (table.need (i .op) (i .a)) (table.change (i .op) (i .a)) (table.size (i .op)) (i .a) p t g
 
 -- an instruction that may leave its frame needs one operand
-needs-one : (o : table.OpCode) (a : ℕ) → turnOf (flowOf (table.row o .flow)) .exact ≡ 1 → table.need o a ≡ 1
+needs-one : (o : table.OpCode) (a : ℕ) → flowEffect (flowOf (table.row o .flow)) .exact ≡ 1 → table.need o a ≡ 1
 needs-one table.Const a e = omega arith
 needs-one table.Add a e = omega arith
 needs-one table.Sub a e = omega arith
@@ -84,7 +84,7 @@ needs-one table.BuildClosure a e = omega arith
 needs-one table.Cast a e = omega arith
 needs-one table.IsKind a e = omega arith
 
-depth-is : (o : table.OpCode) (d : ℕ) → d - turnOf (flowOf (table.row o .flow)) .drops + turnOf (flowOf (table.row o .flow)) .opens ≡ table.depthAfter o d
+depth-is : (o : table.OpCode) (d : ℕ) → d - flowEffect (flowOf (table.row o .flow)) .drops + flowEffect (flowOf (table.row o .flow)) .opens ≡ table.depthAfter o d
 depth-is table.Const d = omega arith
 depth-is table.Add d = omega arith
 depth-is table.Sub d = omega arith
@@ -125,7 +125,7 @@ depth-is table.Cast d = omega arith
 depth-is table.IsKind d = omega arith
 
 -- what is asked of height and depth
-exact-by : (f : table.Flow) (n : ℕ) (l : ℤ) (x a h d : ℕ) → (turnOf (flowOf f) .exact ≡ 1 → n ≡ 1) → Fit (nodeBy (flowOf f) n l x a) h d → rules.ExactBy f h d
+exact-by : (f : table.Flow) (n : ℕ) (l : ℤ) (x a h d : ℕ) → (flowEffect (flowOf f) .exact ≡ 1 → n ≡ 1) → Fit (nodeBy (flowOf f) n l x a) h d → rules.ExactBy f h d
 exact-by table.straight n l x a h d o F = tt
 exact-by table.opens n l x a h d o F = tt
 exact-by table.closes n l x a h d o F = F .scoped
@@ -138,7 +138,7 @@ exact-by table.mayEnd n l x a h d o F = F .exactly (λ e. omega arith) ∙ o ref
 not-zero : {A : Type 0} → (_≡_ {A = ℕ} 0 0 → ⊥) → A
 not-zero f = absurd (f refl)
 
-fit-by : (f : table.Flow) (n : ℕ) (l : ℤ) (x a h d : ℕ) → (turnOf (flowOf f) .exact ≡ 1 → n ≡ 1) → n ≤ h → rules.ExactBy f h d → Fit (nodeBy (flowOf f) n l x a) h d
+fit-by : (f : table.Flow) (n : ℕ) (l : ℤ) (x a h d : ℕ) → (flowEffect (flowOf f) .exact ≡ 1 → n ≡ 1) → n ≤ h → rules.ExactBy f h d → Fit (nodeBy (flowOf f) n l x a) h d
 fit-by table.straight n l x a h d o e F = record { enough = e; exactly = λ z. not-zero z; scoped = omega arith }
 fit-by table.opens n l x a h d o e F = record { enough = e; exactly = λ z. not-zero z; scoped = omega arith }
 fit-by table.closes n l x a h d o e F = record { enough = e; exactly = λ z. not-zero z; scoped = F }

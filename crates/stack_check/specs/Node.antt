@@ -13,22 +13,22 @@ use Rattle.chunk.specs.declared.Flow.{Flow}
 use Rattle.chunk.specs.declared.Flow.the-variants.{Straight, Opens, Closes, Forward, Backward, Forks, Ends, MayEnd}
 use Rattle.chunk.specs.declared.Instr.{Instr}
 use Rattle.chunk.specs.declared.Decoded.the-variants.{Whole}
-use Rattle.stack_check.specs.declared.Turn.{Turn}
+use Rattle.stack_check.specs.declared.FlowEffect.{FlowEffect}
 use Rattle.stack_check.specs.declared.Node.{Node}
 
-abbrev turn : ℕ → ℕ → ℕ → ℕ → Turn
-turn e d o n = record { exact = e; drops = d; opens = o; ends = n }
+abbrev effect : ℕ → ℕ → ℕ → ℕ → FlowEffect
+effect e d o n = record { exact = e; drops = d; opens = o; ends = n }
 
 -- whether the height must be just what is needed, how many scopes are closed and opened, and whether the frame is left
-abbrev pub turnOf : Flow → Turn
-turnOf Straight = turn 0 0 0 0
-turnOf Opens = turn 0 0 1 0
-turnOf Closes = turn 0 1 0 0
-turnOf Forward = turn 0 0 0 0
-turnOf Backward = turn 0 0 0 0
-turnOf Forks = turn 0 0 0 0
-turnOf Ends = turn 1 0 0 1
-turnOf MayEnd = turn 1 0 0 0
+abbrev pub flowEffect : Flow → FlowEffect
+flowEffect Straight = effect 0 0 0 0
+flowEffect Opens = effect 0 0 1 0
+flowEffect Closes = effect 0 1 0 0
+flowEffect Forward = effect 0 0 0 0
+flowEffect Backward = effect 0 0 0 0
+flowEffect Forks = effect 0 0 0 0
+flowEffect Ends = effect 1 0 0 1
+flowEffect MayEnd = effect 1 0 0 0
 
 -- where control goes from an instruction whose next is at `next`, with the first operand a
 abbrev pub firstOf : Flow → ℕ → ℕ → ℕ
@@ -57,10 +57,10 @@ nodeBy f need change next a =
     record {
       need = need;
       change = change;
-      exact = turnOf f .exact;
-      drops = turnOf f .drops;
-      opens = turnOf f .opens;
-      ends = turnOf f .ends;
+      exact = flowEffect f .exact;
+      drops = flowEffect f .drops;
+      opens = flowEffect f .opens;
+      ends = flowEffect f .ends;
       first = firstOf f next a;
       second = secondOf f next a;
     }

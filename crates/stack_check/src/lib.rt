@@ -4,7 +4,7 @@ ghost use Prim.Native.Nat.{ℕ, _+_, _-_, _^_, _<_};
 ghost use lib.ListN.{length};
 ghost use Rattle.definition.specs.Decode.{fault};
 ghost use Rattle.chunk.specs.Fault.{staticNumber};
-ghost use Rattle.stack_check.specs.Node.{turnOf, firstOf, secondOf, Drawn, NodeIs, Here, chunkOf};
+ghost use Rattle.stack_check.specs.Node.{flowEffect, firstOf, secondOf, Drawn, NodeIs, Here, chunkOf};
 ghost use Rattle.stack_check.specs.Flat.{Goes, Changeable, heightAfter};
 ghost use Rattle.stack_check.specs.Progress.{Progress, Coming, Visited, Spread, Handling, Tested, Listed};
 ghost use Rattle.stack_check.specs.Answer.{reasonNumber, ChunkIs, ChunkDecided, RowLent, RowDecided, CheckRoomy, Lent, Decided};
@@ -39,7 +39,7 @@ pub enum CheckAnswer {
 
 // What an instruction's flow asks: `exact` is 1 where the height must be just what is needed, `drops` and `opens` say how many scopes are
 // closed and opened, `ends` is 1 where nothing comes after it.
-pub struct Turn {
+pub struct FlowEffect {
     pub exact: usize,
     pub drops: usize,
     pub opens: usize,
@@ -67,10 +67,10 @@ pub struct Search {
     pub bad: usize,
 }
 
-fn asks(exact: usize, drops: usize, opens: usize, ends: usize) -> Turn
+fn effect(exact: usize, drops: usize, opens: usize, ends: usize) -> FlowEffect
     ensures { λ r. ⌜ (r .exact ≡ exact) × (r .drops ≡ drops) × (r .opens ≡ opens) × (r .ends ≡ ends) ⌝ }
 {
-    Turn {
+    FlowEffect {
         exact: exact,
         drops: drops,
         opens: opens,
@@ -78,18 +78,18 @@ fn asks(exact: usize, drops: usize, opens: usize, ends: usize) -> Turn
     }
 }
 
-fn turn_of(flow: Flow) -> Turn
-    ensures { λ r. ⌜ r ≡ turnOf flow ⌝ }
+fn flow_effect(flow: Flow) -> FlowEffect
+    ensures { λ r. ⌜ r ≡ flowEffect flow ⌝ }
 {
     match flow {
-        Flow::Straight => asks(0, 0, 0, 0),
-        Flow::Opens => asks(0, 0, 1, 0),
-        Flow::Closes => asks(0, 1, 0, 0),
-        Flow::Forward => asks(0, 0, 0, 0),
-        Flow::Backward => asks(0, 0, 0, 0),
-        Flow::Forks => asks(0, 0, 0, 0),
-        Flow::Ends => asks(1, 0, 0, 1),
-        Flow::MayEnd => asks(1, 0, 0, 0),
+        Flow::Straight => effect(0, 0, 0, 0),
+        Flow::Opens => effect(0, 0, 1, 0),
+        Flow::Closes => effect(0, 1, 0, 0),
+        Flow::Forward => effect(0, 0, 0, 0),
+        Flow::Backward => effect(0, 0, 0, 0),
+        Flow::Forks => effect(0, 0, 0, 0),
+        Flow::Ends => effect(1, 0, 0, 1),
+        Flow::MayEnd => effect(1, 0, 0, 0),
     }
 }
 
@@ -152,7 +152,7 @@ fn node_of(i: Instr) -> Node
     let next = i.next;
     let a = i.a;
     let flow = chunk::flow_of(row.flow);
-    let t = turn_of(flow);
+    let t = flow_effect(flow);
     let counted = row.per * a;
     Node {
         need: row.need + counted,

@@ -40,7 +40,8 @@ same-length c = search needs
 returns : tie.Need-returns
 returns c =
     let check = c .before .before .before .before .before .before .before .before .before .before .before .before .check in
-    let args = c .before .before .before .before .before .before .before .before .before .before .before .before .before .before .before .before .before .before .before .before .before .before .before .args in
+    let args = c .before .before .before .before .before .before .before .before .before .before .before .before .before .before .before .before
+    .before .before .before .before .before .before .before .args in
     says (args .image .now)
     _ (check .result)
     ((check .ensures) .0)

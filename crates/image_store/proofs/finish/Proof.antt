@@ -1,4 +1,4 @@
--- One case for each record, and for `Ends` one for each outcome of its two tests: `finishOf` computes to the same turn.
+-- One case for each record, and for `Ends` one for each outcome of its two tests: `finishOf` computes to the same answer.
 use borrow.Author.Needs.{needs}
 use Rattle.image_store.proofs.finish.Statement.{statement}
 use Rattle.image_store.proofs.finish.Tie as tie

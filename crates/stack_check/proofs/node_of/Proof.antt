@@ -10,8 +10,8 @@ use Rattle.stack_check.proofs.Sums.{less-fits, less-back}
 flow-of-requires : tie.Need-flow-of-requires
 flow-of-requires c κs = search needs
 
-turn-of-requires : tie.Need-turn-of-requires
-turn-of-requires c κs = search needs
+flow-effect-requires : tie.Need-flow-effect-requires
+flow-effect-requires c κs = search needs
 
 mul-counted : tie.Need-mul-counted
 mul-counted c =
@@ -44,12 +44,12 @@ second-of-requires c κs = search needs
 
 returns : tie.Need-returns
 returns c =
-    let turn-of = c .before .before .before .before .before .before .turn-of in
+    let flow-effect = c .before .before .before .before .before .before .flow-effect in
     let flow-of = c .before .before .before .before .before .before .before .flow-of in
     let s = c .before .before .before .before .before .before .before .before .before .before in
     let i = s .args .i in
     let l = limits i (s .pre) in
-    node-is i _ _ _ _ _ (flow-of .ensures) (turn-of .ensures) (c .before .first-of .ensures) (c .second-of .ensures)
+    node-is i _ _ _ _ _ (flow-of .ensures) (flow-effect .ensures) (c .before .first-of .ensures) (c .second-of .ensures)
     (less-back (i .row .change) (i .row .per * i .a) (l .rises) (l .falls) (l .counted))
 
 pub node-of-spec : {M : Type 1} → statement M
@@ -57,7 +57,7 @@ node-of-spec =
     tie.close
     (tie.spec
     flow-of-requires
-    turn-of-requires
+    flow-effect-requires
     mul-counted
     add-t8
     cast-t9

@@ -12,8 +12,8 @@ use Rattle.image_records.specs.Records.{numberOf, seenOf}
 use Rattle.image_records.specs.declared.Part.the-variants.{InTexts}
 use Rattle.image_records.specs.declared.State.{State}
 use Rattle.image_store.specs.Stored.{advance, newEnds, newKinds, newPayloads, newRow}
-use Rattle.image_store.specs.declared.Turn.{Turn}
-use Rattle.image_store.specs.declared.Turn.the-variants.{Next, Ready, Stop}
+use Rattle.image_store.specs.declared.AfterLine.{AfterLine}
+use Rattle.image_store.specs.declared.AfterLine.the-variants.{Next, Ready, Stop}
 use Rattle.image.specs.Answer.{Slices, Outcome, holds, refuses, outcomeOf, Behind, BehindMost, Left, Blanked}
 use Rattle.image.specs.declared.LoadAnswer.{LoadAnswer}
 use Rattle.image.specs.declared.LoadAnswer.the-variants.{Loaded, Refused}
@@ -118,36 +118,36 @@ pub record Sized (s : State) (at : ℕ) : Type 0 where
   pub short-code : s .code ≤ 4096
   pub few-own : s .own ≤ 256
 
--- what a turn's answer says, with the work slices as they are left
-abbrev pub turnOf : Turn → List ℕ → ℕ → Slices → Outcome
-turnOf (Next s at) image k m = goes (split (drop at image)) (partsOf s m) (k + 1)
-turnOf (Ready s) image k m = holds (countsIn s) (heldBy s m)
-turnOf (Stop r l) image k m = refuses (numberOf r) l
+-- what comes after a line, with the work slices as they are left
+abbrev pub afterLine : AfterLine → List ℕ → ℕ → Slices → Outcome
+afterLine (Next s at) image k m = goes (split (drop at image)) (partsOf s m) (k + 1)
+afterLine (Ready s) image k m = holds (countsIn s) (heldBy s m)
+afterLine (Stop r l) image k m = refuses (numberOf r) l
 
 -- from what the numbers say on, the slices are as they were
 abbrev pub BehindState : State → Slices → Slices → Type 0
 BehindState s m m′ = Behind 32768 (s .texts) (s .constants) (4 * s .rows) m m′
 
--- the bounds after a turn, and what the slices keep
-abbrev pub TurnFits : Turn → ℕ → ℕ → Type 0
-TurnFits (Next s next) at size = Sized s next × (at < next) × (next ≤ size)
-TurnFits (Ready s) at size = s .rows ≡ s .chunks + 1
-TurnFits (Stop r l) at size = Unit
+-- the bounds after a line, and what the slices keep
+abbrev pub AfterLineFits : AfterLine → ℕ → ℕ → Type 0
+AfterLineFits (Next s next) at size = Sized s next × (at < next) × (next ≤ size)
+AfterLineFits (Ready s) at size = s .rows ≡ s .chunks + 1
+AfterLineFits (Stop r l) at size = Unit
 
 pub record Grows (s t : State) : Type 0 where
   pub more-texts : s .texts ≤ t .texts
   pub more-constants : s .constants ≤ t .constants
   pub more-rows : s .rows ≤ t .rows
 
-abbrev pub TurnLeft : Turn → State → Slices → Slices → Type 0
-TurnLeft (Next t next) s m m′ = Grows s t × BehindState t m m′
-TurnLeft (Ready t) s m m′ = Grows s t × BehindState t m m′
-TurnLeft (Stop r l) s m m′ = BehindMost m m′
+abbrev pub AfterLineLeft : AfterLine → State → Slices → Slices → Type 0
+AfterLineLeft (Next t next) s m m′ = Grows s t × BehindState t m m′
+AfterLineLeft (Ready t) s m m′ = Grows s t × BehindState t m m′
+AfterLineLeft (Stop r l) s m m′ = BehindMost m m′
 
-pub record TakesLine (image : List ℕ) (s : State) (at k : ℕ) (m : Slices) (u : Turn) (m′ : Slices) : Type 0 where
-  pub turn : turnOf u image k m′ ≡ goes (split (drop at image)) (partsOf s m) k
-  pub fits : TurnFits u at (length image)
-  pub left : TurnLeft u s m m′
+pub record TakesLine (image : List ℕ) (s : State) (at k : ℕ) (m : Slices) (u : AfterLine) (m′ : Slices) : Type 0 where
+  pub after : afterLine u image k m′ ≡ goes (split (drop at image)) (partsOf s m) k
+  pub fits : AfterLineFits u at (length image)
+  pub left : AfterLineLeft u s m m′
 
 -- all lines of an image that is not too long, in slices that are long enough
 pub record LoadsLines (image : List ℕ) (m : Slices) (r : LoadAnswer) (m′ : Slices) : Type 0 where
