@@ -1,3 +1,4 @@
+-- The word of the f64 nearest to the Int is read back as that f64. Assumes nothing.
 use borrow.Author.Needs.{needs}
 use mathlib.Core.Path.{ap, _∙_}
 use lib.Ieee.{binary64, ofBits, ofInt}
