@@ -11,7 +11,7 @@ use Rattle.image_records.specs.declared.Record.{Record}
 use Rattle.image_records.specs.declared.Record.the-variants.{Text, Opens, Constant, Code, Ends, Fault}
 use Rattle.image_store.specs.Stored.{advance, Fine, Accepted}
 use Rattle.image.specs.Answer.{Slices}
-use Rattle.image.specs.Lines.{Parts, newBytes, grow, partsOf}
+use Rattle.image.specs.Reading.{Parts, newBytes, grow, partsOf}
 
 -- a record that is not at fault keeps the limits
 pub fine : (s : State) (b : List ℕ) (r : Record) → Told (seenOf s) (length b) (says r b) → Fine s (length b) r

@@ -57,7 +57,7 @@ use Rattle.image_records.specs.declared.Part.the-variants.{InTexts, InConstants
 use Rattle.image_records.specs.declared.State.{State}
 use Rattle.image_store.specs.Stored.{namedBy}
 use Rattle.image.specs.Answer.{holds, refuses, flat, codeIn, bytesIn, endsFrom, kindOf, payloadOf, rowsFrom, slicesOf, countsOf, encoded}
-use Rattle.image.specs.Lines.{Parts, start, grow, countsIn, closing, onRecord, onLine, go, goes, loadOf}
+use Rattle.image.specs.Reading.{Parts, start, grow, countsIn, closing, onRecord, onLine, go, goes, loadOf}
 use Rattle.image.proofs.Grown.{parts-all}
 
 -- where a line stands, as the code has it

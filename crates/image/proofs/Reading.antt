@@ -25,7 +25,7 @@ use Rattle.image_store.specs.Stored.{advance, Fine, Accepted, finishOf}
 use Rattle.image_store.specs.declared.AfterLine.{AfterLine}
 use Rattle.image_store.specs.declared.AfterLine.the-variants.{Next, Ready, Stop}
 use Rattle.image.specs.Answer.{Slices, holds, refuses, encoded, short, loadIn, Behind, BehindMost, blanked, Loads}
-use Rattle.image.specs.Lines.{
+use Rattle.image.specs.Reading.{
   Parts,
   none-yet,
   grow,

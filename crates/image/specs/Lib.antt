@@ -1,3 +1,3 @@
 pub mod Answer
-pub mod Lines
+pub mod Reading
 pub mod Held

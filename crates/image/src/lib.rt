@@ -6,7 +6,7 @@ ghost use mathlib.Core.Path.{_≡_};
 ghost use Prim.Native.Nat.{_≤_, _<_};
 ghost use lib.ListN.{length};
 ghost use Rattle.image.specs.Answer.{slices, blanked, Loads};
-ghost use Rattle.image.specs.Lines.{LoadRoomy, Sized, TakesLine, LoadsLines, isRefused, LoadsSettled};
+ghost use Rattle.image.specs.Reading.{LoadRoomy, Sized, TakesLine, LoadsLines, isRefused, LoadsSettled};
 use clearing::clear_u8;
 use clearing::clear_u64;
 use clearing::clear_usize;
