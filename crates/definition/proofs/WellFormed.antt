@@ -30,7 +30,7 @@ use Rattle.numbers.specs.Scalars.{Scalar, integer, double, single, ScalarPair, 
 use Rattle.numbers.specs.Answers.{pick}
 use Rattle.numbers.specs.Arithmetic.{checked, checkedDiv, arithmetic, negateScalar, negateOf}
 use Rattle.numbers.proofs.Ranges.{no-negative}
-use Rattle.numbers.specs.Casts.{truncated, asFloat, castInteger, castTo, castable, castOf}
+use Rattle.numbers.specs.Casts.{truncated, asFloat, castInteger, castTo, castOf}
 use Rattle.definition.specs.Image.{Constant, Chunk, noChunk, Image, chunkAt}
 use Rattle.definition.specs.Lines.{listed, widths, widthOf}
 use Rattle.definition.specs.Loaded.{noConstant, ConstantKept, ImageKept}
@@ -162,9 +162,7 @@ cast-to-fits ToSFloat z x e = is-true (fits binary32 (nearestBinary32 x)) (neare
 
 cast-fits : (t : CastTarget) (a : Number) → scalarFits (scalarOf a) ≡ true → Fits (castOf t a)
 unfolding castOf
-cast-fits t a h =
-    picks (castable (scalarOf a)) (castTo t (truncated (scalarOf a)) (asFloat (scalarOf a))) InvalidCast
-    (λ e. cast-to-fits t (truncated (scalarOf a)) (asFloat (scalarOf a)) (as-float-fits (scalarOf a) h)) tt
+cast-fits t a h = cast-to-fits t (truncated (scalarOf a)) (asFloat (scalarOf a)) (as-float-fits (scalarOf a) h)
 
 -- ---- constants
 -- what is below n is at most m

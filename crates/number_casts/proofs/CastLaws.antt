@@ -21,9 +21,9 @@ use Rattle.numbers.specs.declared.IntKind.the-variants.{I64, U64}
 use Rattle.number_casts.specs.declared.WholePart.{WholePart}
 use Rattle.number_casts.specs.declared.WholePart.the-variants.{Below64, Below127, Beyond}
 use Rattle.numbers.specs.Kinds.{intKindCode, inRange, asKind, lowBits, wrapping}
-use Rattle.numbers.specs.Scalars.{Scalar, integer, scalarOf}
+use Rattle.numbers.specs.Scalars.{Scalar, scalarOf}
 use Rattle.numbers.specs.Answers.{pick}
-use Rattle.numbers.specs.Casts.{castable, castTo, castOf, truncated, asFloat, castInteger}
+use Rattle.numbers.specs.Casts.{castTo, castOf, truncated, asFloat, castInteger}
 use Rattle.number_casts.specs.Whole.{wholePartOf, pickWhole}
 use Rattle.numbers.proofs.Signs.{signed}
 use Rattle.numbers.proofs.Ranges.{outside}
@@ -204,13 +204,6 @@ unfolding ofInt ofBits round
 float-zero n e = sym (ap (λ (k : ℕ). ofInt binary64 (negℤ (pos k))) e)
 
 -- ---- the cast of a number, from what it stands for
-pub cast-scalar : (t : CastTarget) (a : Number) (s : Scalar) → s ≡ scalarOf a → pick (castable s) (castTo t (truncated s) (asFloat s)) InvalidCast ≡ castOf t a
+pub cast-scalar : (t : CastTarget) (a : Number) (s : Scalar) → s ≡ scalarOf a → castTo t (truncated s) (asFloat s) ≡ castOf t a
 unfolding castOf
-cast-scalar t a s e = ap (λ (y : Scalar). pick (castable y) (castTo t (truncated y) (asFloat y)) InvalidCast) e
-
-pub cast-uint : (t : CastTarget) (k : IntKind) (z : ℤ) {m : ℕ} → m ≡ intKindCode k → m ≡ 2 → InvalidCast ≡ pick (castable (integer k z)) (castTo t z (ofInt binary64 z)) InvalidCast
-cast-uint t k z e h = sym (ap (λ (b : Bool). pick (not b) (castTo t z (ofInt binary64 z)) InvalidCast) (eq-eqb (intKindCode k) 2 (sym e ∙ h)))
-
-pub cast-castable : (t : CastTarget) (k : IntKind) (z : ℤ) {m : ℕ} → m ≡ intKindCode k → (m ≡ 2 → ⊥) → castTo t z (ofInt binary64 z) ≡ pick (castable
-    (integer k z)) (castTo t z (ofInt binary64 z)) InvalidCast
-cast-castable t k z e h = sym (ap (λ (b : Bool). pick (not b) (castTo t z (ofInt binary64 z)) InvalidCast) (ne-eqb (intKindCode k) 2 (λ q. h (e ∙ q))))
+cast-scalar t a s e = ap (λ (y : Scalar). castTo t (truncated y) (asFloat y)) e

@@ -1,7 +1,7 @@
 // Cast. A float is made whole through its bits: there are no 128-bit integers here.
 ghost use mathlib.Core.Path.{_≡_};
 ghost use Prim.Native.Nat.{_%_, _^_};
-ghost use lib.IntN.{ℤ};
+ghost use lib.IntN.{ℤ, pos};
 ghost use lib.Ieee as Ieee;
 ghost use lib.Ieee.{binary64};
 ghost use Rattle.numbers.specs.Kinds.{inRange, lowBits, twosComplement};
@@ -178,11 +178,17 @@ fn low_word(x: f64) -> u64
     }
 }
 
-// The casts that a sheet makes most, by their words: an Int to Float, and a Float to Int.
+// The casts that a sheet makes most, by their words: an Int or a UInt to Float, and a Float to Int. A UInt's word is that of the Int that it is cast to.
 pub fn int_to_float_word(p: u64) -> u64
     ensures { λ r. ⌜ Ieee.ofBits binary64 r ≡ Ieee.ofInt binary64 (twosComplement 63 p) ⌝ }
 {
     float_bits::word_of_f64(nearest_to_int(number_operands::i64_of_word(p)))
+}
+
+pub fn uint_to_float_word(p: u64) -> u64
+    ensures { λ r. ⌜ Ieee.ofBits binary64 r ≡ Ieee.ofInt binary64 (pos p) ⌝ }
+{
+    float_bits::word_of_f64(std::num::nearest_u64_to_f64(p))
 }
 
 pub fn float_to_int_word(p: u64) -> u64
@@ -195,14 +201,7 @@ pub fn cast(target: CastTarget, a: Number) -> NumberAnswer
     ensures { λ r. ⌜ r ≡ castOf target a ⌝ }
 {
     match operand_of(a) {
-        Operand::Integer(k, x) => {
-            // a UInt is not cast
-            if int_kind_code(k) == 2 {
-                NumberAnswer::InvalidCast
-            } else {
-                cast_from_integer(target, x)
-            }
-        }
+        Operand::Integer(_, x) => cast_from_integer(target, x),
         Operand::Double(x) => cast_from_float(target, x),
         Operand::Single(x) => cast_from_float(target, std::num::f32_to_f64_with_nan(x)),
     }

@@ -1,5 +1,4 @@
--- Cast: ten targets from nine kinds.
-use mathlib.Core.Bool.{Bool, true, not}
+-- Cast: ten targets from ten kinds. Quoted is document 01, and document 02 where it says so.
 use mathlib.Core.List.{List, [], _∷_}
 use lib.IntN.{ℤ}
 use lib.Dec.{eqb}
@@ -33,13 +32,14 @@ castTargets =
     ∷ ToInteger I8
     ∷ []
 
--- "A float becomes whole by truncation, NaN as 0, held to -2^127 .. 2^127 - 1"
+-- "A float becomes whole by truncation, NaN as 0, held to -2^127 .. 2^127 - 1"; of an integer, a UInt among them, "Integer targets take the exact
+-- value" (document 02, E1)
 abbrev pub truncated : Scalar → ℤ
 truncated (integer k z) = z
 truncated (double x) = Ieee.toSigned 127 x
 truncated (single x) = Ieee.toSigned 127 x
 
--- "To Float: nearest even"; an SFloat is a Float as it stands
+-- "To Float: nearest even", and of a UInt "Float targets round as for Int" (document 02, E1); an SFloat is a Float as it stands
 abbrev pub asFloat : Scalar → Ieee.Float
 asFloat (integer k z) = Ieee.ofInt binary64 z
 asFloat (double x) = x
@@ -55,11 +55,7 @@ castTo (ToInteger k) z x = castInteger k z
 castTo ToFloat z x = Value (Float x)
 castTo ToSFloat z x = Value (SFloat (nearestBinary32 x))
 
--- "From any of the ten kinds except UInt; anything else is 42"
-abbrev pub castable : Scalar → Bool
-castable (integer k z) = not (eqb (intKindCode k) 2)
-castable (double x) = true
-castable (single x) = true
-
+-- "From any of the ten kinds except UInt", and "From now on UInt casts to all ten targets" (document 02, E1): from any of the ten. Of an integer the
+-- value counts, and not the kind that it comes with.
 unfoldable pub castOf : CastTarget → Number → NumberAnswer
-castOf t a = pick (castable (scalarOf a)) (castTo t (truncated (scalarOf a)) (asFloat (scalarOf a))) InvalidCast
+castOf t a = castTo t (truncated (scalarOf a)) (asFloat (scalarOf a))
