@@ -2,7 +2,8 @@
 
 mod programs;
 
-use programs::PROGRAMS;
+use model::Answer;
+use programs::{PROGRAMS, Program};
 use published::{Built, Ending};
 use rl_vm::{CheckAnswer, Machine, RunAnswer, RunWork};
 use std::hint::black_box;
@@ -21,7 +22,7 @@ fn main() {
         "", "instructions", "ns, machine", "ns, Rust", "ratio"
     );
     for program in &PROGRAMS {
-        program_line(program.name, &program.image(), &mut machine);
+        program_line(program, &mut machine);
     }
     println!();
     sheet_lines(&mut machine);
@@ -34,35 +35,63 @@ fn timed(work: impl FnOnce()) -> f64 {
     began.elapsed().as_secs_f64() * 1e9
 }
 
-/// Both machines on one image, turn by turn, and the least time of each for one instruction.
-fn program_line(name: &str, image: &[u8], machine: &mut Machine) {
-    let loaded = model::load(image).expect("the image loads");
-    let built = Built::new(&loaded);
-    let count = same_value(name, image, &built, machine);
+/// Both machines on one image, turn by turn, and the least time of each for one instruction; the
+/// machine alone where the published Rust stops in place of a value.
+fn program_line(program: &Program, machine: &mut Machine) {
+    let (name, image) = (program.name, program.image());
+    let loaded = model::load(&image).expect("the image loads");
+    let built = program.rust.then(|| Built::new(&loaded));
+    let count = match &built {
+        Some(built) => same_value(name, &image, built, machine),
+        None => models_value(name, &image, machine),
+    };
     let mut result = vec![0; ROOM];
     let (mut ours, mut theirs) = (f64::INFINITY, f64::INFINITY);
     for _ in 0..ROUNDS {
         ours = ours.min(timed(|| {
-            black_box(machine.run(black_box(image), BUDGET, &mut result));
+            black_box(machine.run(black_box(&image), BUDGET, &mut result));
         }));
-        theirs = theirs.min(timed(|| {
-            black_box(black_box(&built).run(ROOM));
-        }));
+        if let Some(built) = &built {
+            theirs = theirs.min(timed(|| {
+                black_box(black_box(built).run(ROOM));
+            }));
+        }
     }
     let (ours, theirs) = (ours / count as f64, theirs / count as f64);
-    let ratio = ours / theirs;
-    println!("{name:<26} {count:>12} {ours:>12.2} {theirs:>12.2} {ratio:>8.2}");
+    let beside = match built {
+        Some(_) => format!("{theirs:>12.2} {:>8.2}", ours / theirs),
+        None => format!("{:>12} {:>8}", "-", "-"),
+    };
+    println!("{name:<26} {count:>12} {ours:>12.2} {beside}");
 }
 
-/// The count of the run, once both have given the same bytes.
-fn same_value(name: &str, image: &[u8], built: &Built, machine: &mut Machine) -> usize {
+/// The machine's value of an image: the count and the bytes.
+fn value(name: &str, image: &[u8], machine: &mut Machine) -> (usize, Vec<u8>) {
     let mut result = vec![0; ROOM];
     let answer = machine.run(image, BUDGET, &mut result);
     let RunAnswer::Value { count, length } = answer else {
         panic!("{name}: the machine answers {answer:?}");
     };
-    let expected = Ending::Value(result[..length].to_vec());
-    assert_eq!(built.run(ROOM), expected, "{name}");
+    result.truncate(length);
+    (count, result)
+}
+
+/// The count of the run, once both have given the same bytes.
+fn same_value(name: &str, image: &[u8], built: &Built, machine: &mut Machine) -> usize {
+    let (count, bytes) = value(name, image, machine);
+    assert_eq!(built.run(ROOM), Ending::Value(bytes), "{name}");
+    count
+}
+
+/// The count of the run, once the machine and the model have given the same.
+fn models_value(name: &str, image: &[u8], machine: &mut Machine) -> usize {
+    let (count, bytes) = value(name, image, machine);
+    let loaded = model::load(image).expect("the image loads");
+    let expected = Answer::Value {
+        count: count as u64,
+        bytes,
+    };
+    assert_eq!(model::run(&loaded, BUDGET as u64, ROOM), expected, "{name}");
     count
 }
 

@@ -1,9 +1,10 @@
 //! The images: loops of so many rounds, written in assembler text (tools/asm/README.md).
 
-/// A program: what it is heavy in, its text with `ROUNDS` for the rounds and `KIND` for a kind of numbers, that kind, and how many
-/// rounds there are.
+/// A program: what it is heavy in, whether the published Rust runs it to the same value, its text with `ROUNDS` for the rounds and
+/// `KIND` for a kind of numbers, that kind, and how many rounds there are.
 pub struct Program {
     pub name: &'static str,
+    pub rust: bool,
     text: &'static str,
     kind: &'static str,
     rounds: u64,
@@ -23,63 +24,87 @@ impl Program {
     }
 }
 
-pub const PROGRAMS: [Program; 10] = [
+pub const PROGRAMS: [Program; 12] = [
     Program {
         name: "Int arithmetic",
+        rust: true,
         text: INTEGERS,
         kind: "Int",
         rounds: 530_000,
     },
     Program {
         name: "Float arithmetic",
+        rust: true,
         text: FLOATS,
         kind: "Float",
         rounds: 590_000,
     },
     Program {
         name: "SFloat arithmetic",
+        rust: true,
         text: FLOATS,
         kind: "SFloat",
         rounds: 590_000,
     },
     Program {
         name: "SInt arithmetic",
+        rust: true,
         text: SMALL_INTEGERS,
         kind: "SInt",
         rounds: 470_000,
     },
     Program {
         name: "UInt arithmetic",
+        rust: true,
         text: SMALL_INTEGERS,
         kind: "UInt",
         rounds: 470_000,
     },
     Program {
         name: "Int Div, Negate",
+        rust: true,
         text: DIVISIONS,
         kind: "Int",
         rounds: 560_000,
     },
     Program {
         name: "Cast, Float Less",
+        rust: true,
         text: CASTS,
         kind: "Int",
         rounds: 500_000,
     },
     Program {
+        name: "Cast of an Int",
+        rust: true,
+        text: TARGETS,
+        kind: "Int",
+        rounds: 250_000,
+    },
+    Program {
+        name: "Cast of a UInt",
+        rust: false,
+        text: TARGETS,
+        kind: "UInt",
+        rounds: 250_000,
+    },
+    Program {
         name: "calls",
+        rust: true,
         text: CALLS,
         kind: "Int",
         rounds: 400_000,
     },
     Program {
         name: "closures and Propagate",
+        rust: true,
         text: CLOSURES,
         kind: "Int",
         rounds: 450_000,
     },
     Program {
         name: "arrays",
+        rust: true,
         text: ARRAYS,
         kind: "Int",
         rounds: 400_000,
@@ -258,6 +283,62 @@ again:
   Loop again
 done:
   GetLocal sum
+  Return
+";
+
+/// x to each of the ten targets; 40 instructions a round.
+const TARGETS: &str = "
+chunk top/0
+  local x = 0
+  local i = 1
+  PushScope
+  Const KIND 100
+  DefineLocal x
+  Const Int 0
+  DefineLocal i
+again:
+  GetLocal i
+  Const Int ROUNDS
+  Less
+  JumpIfFalse done
+  GetLocal x
+  Cast Int
+  Pop
+  GetLocal x
+  Cast Float
+  Pop
+  GetLocal x
+  Cast UInt
+  Pop
+  GetLocal x
+  Cast SFloat
+  Pop
+  GetLocal x
+  Cast SUInt
+  Pop
+  GetLocal x
+  Cast SInt
+  Pop
+  GetLocal x
+  Cast BByte
+  Pop
+  GetLocal x
+  Cast BSByte
+  Pop
+  GetLocal x
+  Cast Byte
+  Pop
+  GetLocal x
+  Cast SByte
+  Pop
+  GetLocal i
+  Const Int 1
+  Add
+  SetLocal i
+  Pop
+  Loop again
+done:
+  GetLocal x
   Return
 ";
 

@@ -24,6 +24,7 @@ const SMALL: passing::Style = passing::Style {
     size: 3,
     cost: 60,
     chunks: 3,
+    uint_casts: true,
 };
 
 /// A small image with every kind of line and constant.

@@ -13,6 +13,7 @@ pub fn mutated(rng: Rng) -> Image {
         size: rng.between(2, 6),
         cost: 200,
         chunks: 5,
+        uint_casts: rng.aside_one_in(8),
     };
     let mut image = passing::styled(Rng::new(rng.draw()), style);
     for _ in 0..rng.between(1, 3) {

@@ -125,24 +125,54 @@ impl Num {
 
     /// The values at which an operation or a cast could change its answer.
     pub fn edges(self) -> Vec<Constant> {
-        let whole = |numbers: &[i128], low: i128, high: i128| -> Vec<Constant> {
-            let fit = numbers.iter().filter(|n| (low..=high).contains(n));
-            fit.map(|&n| self.bits(n as u64)).collect()
-        };
-        let numbers = whole_edges();
         match self {
-            Int => whole(&numbers, i64::MIN as i128, i64::MAX as i128),
-            UInt => whole(&numbers, 0, u64::MAX as i128),
-            SInt => whole(&numbers, i32::MIN as i128, i32::MAX as i128),
-            SUInt => whole(&numbers, 0, u32::MAX as i128),
-            Byte => whole(&numbers, 0, 255),
-            SByte => whole(&numbers, -128, 127),
-            BByte => whole(&numbers, 0, 65_535),
-            BSByte => whole(&numbers, -32_768, 32_767),
             Float => float_edges(),
             SFloat => sfloat_edges(),
+            _ => self.those_of(&whole_edges()),
         }
     }
+
+    /// The values at which a cast could change its answer.
+    pub fn cast_edges(self) -> Vec<Constant> {
+        let mut edges = self.edges();
+        edges.extend(self.those_of(&rounded_twice()));
+        edges
+    }
+
+    /// Those of the numbers that the kind has, none for a float's.
+    fn those_of(self, numbers: &[i128]) -> Vec<Constant> {
+        let (low, high) = match self {
+            Int => (i64::MIN as i128, i64::MAX as i128),
+            UInt => (0, u64::MAX as i128),
+            SInt => (i32::MIN as i128, i32::MAX as i128),
+            SUInt => (0, u32::MAX as i128),
+            Byte => (0, 255),
+            SByte => (-128, 127),
+            BByte => (0, 65_535),
+            BSByte => (-32_768, 32_767),
+            Float | SFloat => return vec![],
+        };
+        let fit = numbers.iter().filter(|n| (low..=high).contains(n));
+        fit.map(|&n| self.bits(n as u64)).collect()
+    }
+}
+
+/// Numbers that two roundings to SFloat take elsewhere than one, with neighbours: the least of them,
+/// and one that is no Int. And the tie below 2^64 in Float, with the number before it.
+fn rounded_twice() -> [i128; 8] {
+    let (least, over) = (1 << 53 | 1 << 29 | 1, 1 << 63 | 1 << 39 | 1);
+    let tie = (1 << 64) - 1024;
+    let above = over + 1024;
+    [
+        least - 1,
+        least,
+        over - 1,
+        over,
+        above - 1,
+        above,
+        tie - 1,
+        tie,
+    ]
 }
 
 /// Each power of two that bounds a kind or a float's whole numbers, and its neighbours.

@@ -65,6 +65,8 @@ pub struct Style {
     pub cost: i64,
     /// chunks at most
     pub chunks: usize,
+    /// whether a UInt is cast, which the published machine can't be asked for (document 02, E1)
+    pub uint_casts: bool,
 }
 
 struct Program {
@@ -87,6 +89,7 @@ pub fn passing(rng: Rng) -> Image {
         size: [4, 7, 12][large],
         cost: [150, 700, 3000][large],
         chunks: [4, 8, 14][large],
+        uint_casts: rng.aside_one_in(8),
     };
     styled(rng, style)
 }

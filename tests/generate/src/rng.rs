@@ -22,6 +22,11 @@ impl Rng {
         rng
     }
 
+    /// As `one_in`, and nothing is drawn: what comes after it is the same whatever it says.
+    pub fn aside_one_in(&self, n: usize) -> bool {
+        Rng::new(!self.state).one_in(n)
+    }
+
     pub fn draw(&mut self) -> u64 {
         self.state = self.state.wrapping_add(0x9E37_79B9_7F4A_7C15);
         let mut z = self.state;

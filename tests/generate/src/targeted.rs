@@ -91,7 +91,7 @@ pub fn casts() -> Vec<Case> {
                 name: "Cast",
                 operands: vec![to.target()],
             };
-            let smalls: Vec<Small> = from.edges().into_iter().map(cast).collect();
+            let smalls: Vec<Small> = from.cast_edges().into_iter().map(cast).collect();
             cases.extend(bundled(&format!("cast {from:?} to {to:?}"), &smalls));
         }
     }

@@ -44,6 +44,7 @@ fn a_chunk(rng: &mut Rng, source: &Source, careful: bool) -> Chunk {
         locals: arity,
         globals: if top { 0 } else { 2 },
         top,
+        uint_casts: rng.aside_one_in(8),
         ..Walk::default()
     };
     walk.code.chunk.arity = arity as u8;
@@ -149,6 +150,8 @@ struct Walk {
     globals: usize,
     scopes: usize,
     top: bool,
+    /// whether a UInt is cast, which the published machine can't be asked for (document 02, E1)
+    uint_casts: bool,
 }
 
 const UNKNOWN: u8 = 255;
@@ -189,7 +192,7 @@ impl Walk {
             "Index" => is(1, &[14, 17]) && is(0, &[1, 2, 10]),
             "ArrLen" => is(0, &[14]),
             "ArrSet" => is(2, &[14]) && is(1, &[1, 2, 10]),
-            "Cast" => top.is_some_and(|k| is_number(k) && k != 2),
+            "Cast" => top.is_some_and(|k| is_number(k) && (k != 2 || self.uint_casts)),
             "Call" => is(first, &[20, 25]),
             "BuildArr" | "BuildTuple" => first <= self.kinds.len(),
             "PushScope" | "Jump" | "Loop" => true,

@@ -1,7 +1,8 @@
 //! The domain: the runs for which the published machine has an answer to compare. It is left where
 //! that machine panics or reads outside its vectors, where an unknown instruction begins, where a
-//! Loop goes before offset 0, and at 45, 46 and 47. One thing is added: a run in which that machine
-//! would walk over more nodes than anyone can wait for.
+//! Loop goes before offset 0, and at 45, 46 and 47; and where an instruction begins that a request of
+//! document 02 has changed, on operands for which it has. One thing is added: a run in which that
+//! machine would walk over more nodes than anyone can wait for.
 
 use crate::machine::{Answer, run_judged};
 use crate::value::{Block, Shape, Value};
@@ -25,6 +26,8 @@ pub enum Outside {
     ConstantPanics,
     LoopBeforeStart,
     LocalNotLive,
+    /// a UInt is cast (document 02, E1)
+    UIntCast,
     Most,
     Budget,
     Room,
@@ -73,6 +76,7 @@ impl fmt::Display for Outside {
             Outside::ConstantPanics => "the Rust panics at a missing constant",
             Outside::LoopBeforeStart => "a Loop goes before offset 0",
             Outside::LocalNotLive => "the Rust panics at a local slot that is not live",
+            Outside::UIntCast => "a UInt is cast, which the Rust does not do",
             Outside::Most => "a most is passed",
             Outside::Budget => "the budget is used up",
             Outside::Room => "the result is too long",

@@ -1,6 +1,7 @@
-//! Document 01 as a plain safe program, written from the document and not from the published
-//! machine: load, the stack check, the run, and whether a run lies in the document's domain. It is
-//! slow and simple on purpose: one thing to read beside the document.
+//! Document 01, with the requests of document 02 that have landed, as a plain safe program, written
+//! from the documents and not from the published machine: load, the stack check, the run, and whether
+//! a run lies in the domain in which that machine can be asked. It is slow and simple on purpose: one
+//! thing to read beside the documents.
 
 pub mod check;
 pub mod domain;

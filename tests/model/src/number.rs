@@ -188,11 +188,8 @@ pub const TARGETS: [Target; 10] = [
     Target::Whole(Whole::SByte),
 ];
 
-/// A cast from any of the ten kinds except UInt.
+/// A cast from any of the ten kinds, UInt among them (document 02, E1).
 pub fn cast(number: Number, target: Target) -> Result<Number, u8> {
-    if matches!(number, Number::Whole(Whole::UInt, _)) {
-        return Err(NO_CAST);
-    }
     match target {
         Target::Float => Ok(Number::Float(nearest_f64(number))),
         Target::SFloat => Ok(Number::SFloat(nearest_f64(number) as f32)),

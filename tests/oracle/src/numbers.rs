@@ -1,6 +1,7 @@
 //! The published machine's answers for numbers, one line an operation: arithmetic, negation, ordered
 //! comparison and casts at edge values and at a sample drawn with a fixed seed. Each is a run of a
-//! chunk of `Const`, `Const` again if there are two operands, the operation and `Return`.
+//! chunk of `Const`, `Const` again if there are two operands, the operation and `Return`. A cast of a
+//! UInt, which the published machine does not do, has the model's answer (document 02, E1).
 //!
 //! A line has 56 upper-case hexadecimal digits and no spaces: the instruction's number (2), the kind
 //! code of the first operand (2) and its payload as a 64-bit word (16, its own width, zeros in
@@ -12,6 +13,7 @@
 mod edges;
 
 use image::{Chunk, Constant, Image, op};
+use model::{Answer, Outside};
 use published::Ending;
 use std::collections::HashSet;
 
@@ -43,9 +45,24 @@ impl Operand {
             other => panic!("{other} is no kind of number"),
         }
     }
+
+    fn of_result(bytes: &[u8]) -> Operand {
+        Operand {
+            kind: bytes[0],
+            word: bytes[1..].iter().fold(0, |w, b| w << 8 | *b as u64),
+        }
+    }
+
+    fn of_fault(number: u8) -> Operand {
+        Operand {
+            kind: number,
+            word: 0,
+        }
+    }
 }
 
-/// The published machine's answer: a kind and its word, or the fault's number and zero.
+/// The published machine's answer, or the model's where a UInt is cast: a kind and its word, or the
+/// fault's number and zero.
 fn answer(name: &str, constants: &[Operand], operands: &[u16]) -> Operand {
     let mut chunk = Chunk::default();
     for (index, constant) in constants.iter().enumerate() {
@@ -58,16 +75,18 @@ fn answer(name: &str, constants: &[Operand], operands: &[u16]) -> Operand {
         texts: vec![b"top".to_vec()],
         chunks: vec![chunk],
     };
-    match published::run(&image).ending {
-        Ending::Value(bytes) => Operand {
-            kind: bytes[0],
-            word: bytes[1..].iter().fold(0, |w, b| w << 8 | *b as u64),
+    let judged = model::judge(&image, model::BUDGET, model::ROOM);
+    match judged.outside {
+        None => match published::run(&image).ending {
+            Ending::Value(bytes) => Operand::of_result(&bytes),
+            Ending::Stop { number, .. } => Operand::of_fault(number),
+            other => panic!("a number operation ended in {other:?}"),
         },
-        Ending::Stop { number, .. } => Operand {
-            kind: number,
-            word: 0,
+        Some(Outside::UIntCast) => match judged.answer {
+            Answer::Value { bytes, .. } => Operand::of_result(&bytes),
+            Answer::Stop { number, .. } => Operand::of_fault(number),
         },
-        other => panic!("a number operation ended in {other:?}"),
+        Some(why) => panic!("a number operation is outside the domain: {why}"),
     }
 }
 

@@ -6,8 +6,8 @@ use model::{BUDGET, Checked, ROOM};
 
 /// As many rows, rows marked `rust` and passing images as there were when this was written: fewer would mean that
 /// some are not read.
-const ROWS: usize = 253;
-const RUST_ROWS: usize = 153;
+const ROWS: usize = 264;
+const RUST_ROWS: usize = 151;
 const PASSING: usize = 2;
 
 #[derive(Debug, Clone, PartialEq)]
@@ -159,7 +159,8 @@ fn row(reader: &mut Reader) -> Row {
         Token::Word(word) if word == "row" => {
             let source = reader.next();
             let rust = source == Token::Word("rust".to_string());
-            assert!(rust || source == Token::Word("document01".to_string()));
+            let document = ["document01", "document02"].map(|name| Token::Word(name.to_string()));
+            assert!(rust || document.contains(&source));
             (rust, reader.part(), reader.number(), reader.number())
         }
         Token::Word(word) if word == "load" => (false, reader.part(), BUDGET as usize, ROOM),

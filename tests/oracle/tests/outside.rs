@@ -1,7 +1,8 @@
-//! What lies outside the domain: images that do not load, and runs that the published machine can't
-//! be asked for. With each, document 01's answer by the model.
+//! What lies outside the domain: images that do not load, runs that the published machine can't be
+//! asked for, and what a request of document 02 has changed. With each, the documents' answer by the
+//! model.
 
-use image::Constant::{Function, Int, Null, Str};
+use image::Constant::{Function, Int, Null, Str, UInt};
 use image::{Chunk, Image, op};
 use written::{Written, bytes};
 
@@ -44,7 +45,7 @@ fn refusals() {
     assert_eq!(outside(many.as_bytes()), "refused 5 257");
 }
 
-/// The image, document 01's answer, what the published machine does.
+/// The image, the documents' answer, what the published machine does.
 type Case = (&'static [Written], &'static str, &'static str);
 
 const CASES: &[Case] = &[
@@ -103,6 +104,22 @@ const CASES: &[Case] = &[
         ],
         "stop 45 130 0001 0003",
         "no end after 1000000",
+    ),
+    // E1. The last stops in both, and is left out all the same: a cast of a UInt has begun.
+    (
+        &[(0, &[UInt(1)], "Const 0; Cast 0; Return")],
+        "value 3 010000000000000001",
+        "stop 42 2 0000 0003",
+    ),
+    (
+        &[(0, &[UInt(1 << 63 | 1 << 39 | 1)], "Const 0; Cast 3; Return")],
+        "value 3 065F000000",
+        "stop 42 2 0000 0003",
+    ),
+    (
+        &[(0, &[UInt(256)], "Const 0; Cast 8; Return")],
+        "stop 42 2 0000 0003",
+        "stop 42 2 0000 0003",
     ),
 ];
 

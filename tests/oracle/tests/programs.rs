@@ -134,9 +134,9 @@ const PROGRAMS: &[Program] = &[
         "value 3 065D800000",
     ),
     (
-        "UInt 1 to Int",
-        &[(0, &[UInt(1)], "Const 0; Cast 0; Return")],
-        "stop 42 2 0000 0003",
+        "a UInt to the target 10",
+        &[(0, &[UInt(1)], "Const 0; Cast 10; Return")],
+        "stop 30 2 0000 0003",
     ),
     (
         "a Bool has no cast",

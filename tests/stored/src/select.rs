@@ -54,7 +54,7 @@ pub fn runs() -> Vec<Vec<u8>> {
     let mut images: Vec<Vec<u8>> = Vec::new();
     let mut add = |more: Vec<Vec<u8>>| images.extend(more);
     add(limits());
-    add(targeted());
+    add(targeted(inside, 4));
     for share in &SHARES {
         add(share.selection());
     }
@@ -85,18 +85,18 @@ fn limits() -> Vec<Vec<u8>> {
     kept.map(|case| case.bytes).collect()
 }
 
-/// All that give a value; of the stops with one name and number the first few.
-fn targeted() -> Vec<Vec<u8>> {
+/// Of those that are wanted all that give a value; of the stops with one name and number the first few.
+fn targeted(wanted: fn(&[u8]) -> Option<Judged>, few: usize) -> Vec<Vec<u8>> {
     let mut images = Vec::new();
     let mut taken: BTreeMap<(String, u8), usize> = BTreeMap::new();
     for case in list("targeted") {
-        let Some(judged) = inside(&case.bytes) else {
+        let Some(judged) = wanted(&case.bytes) else {
             continue;
         };
         if let Answer::Stop { number, .. } = judged.answer {
             let times = taken.entry((case.name, number)).or_default();
             *times += 1;
-            if *times > 4 {
+            if *times > few {
                 continue;
             }
         }
@@ -139,17 +139,18 @@ fn sort(judged: &Judged) -> (u8, u64) {
     (ending, judged.met)
 }
 
-/// Runs outside the domain, which only document 01 and the model speak of: the mosts passed, the
-/// budget used up, the room too small, and what the published machine takes on trust.
+/// Runs outside the domain, which only the documents and the model speak of: the mosts passed, the
+/// budget used up, the room too small, what the published machine takes on trust, and what a request
+/// has changed.
 pub fn outside() -> Vec<Vec<u8>> {
-    let fixed = list("limits").into_iter().chain(list("targeted"));
-    let mut images: Vec<Vec<u8>> = fixed.map(|case| case.bytes).collect();
-    images.retain(|image| outside_sort(image).is_some());
+    let limits = list("limits").into_iter().map(|case| case.bytes);
+    let mut images: Vec<Vec<u8>> = limits.filter(|image| out(image).is_some()).collect();
+    images.extend(targeted(out, 8));
     let mut sorts = BTreeSet::new();
     for generator in ["mutated", "instructions", "bytes"] {
         let seeded = (0..2_000).filter_map(|n| seeded(generator, SEED, n));
         let mut short = seeded.filter(|image| image.len() <= 500);
-        let new = |image: &Vec<u8>| outside_sort(image).is_some_and(|sort| sorts.insert(sort));
+        let new = |image: &Vec<u8>| out(image).is_some_and(|run| sorts.insert(sort(&run)));
         let taken = short.by_ref().filter(new).take(70);
         images.extend(taken);
     }
@@ -158,10 +159,9 @@ pub fn outside() -> Vec<Vec<u8>> {
     images
 }
 
-/// The sort of a run outside the domain, none for any other image.
-fn outside_sort(bytes: &[u8]) -> Option<(u8, u64)> {
-    let run = judged(bytes).filter(|judged| judged.outside.is_some());
-    run.as_ref().map(sort)
+/// A run outside the domain, none for any other image.
+fn out(bytes: &[u8]) -> Option<Judged> {
+    judged(bytes).filter(|judged| judged.outside.is_some())
 }
 
 /// Images for the stack check: the fixed list, and of each generator short ones: some that pass or

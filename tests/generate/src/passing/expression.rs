@@ -183,8 +183,7 @@ impl Body<'_> {
             }
             1..=2 => {
                 let from = self.program.number_kind();
-                // A UInt can't be cast: leave that to the wild ones.
-                let from = match from == Num::UInt && !wild {
+                let from = match from == Num::UInt && !self.program.style.uint_casts {
                     true => Num::SUInt,
                     false => from,
                 };

@@ -190,7 +190,7 @@ impl Body<'_> {
     /// 42.
     fn bad_cast(&mut self) {
         match self.rng().below(3) {
-            0 => self.expr(&Type::Num(Num::UInt), 1),
+            0 => self.push(Constant::Int(-1 << 40)),
             1 => self.expr(&Type::Str, 1),
             _ => self.push(Constant::Float(1e20f64.to_bits())),
         }

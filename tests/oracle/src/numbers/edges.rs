@@ -127,13 +127,15 @@ pub fn casts(kind: u8) -> Vec<Operand> {
     match kind {
         5 => cast_floats(),
         6 => cast_small_floats(),
-        // No UInt can be cast.
-        2 => whole(2, &[0, 1, 255, 1 << 63, u64::MAX as i128]),
         _ => {
             let mut values = vec![-1, 0, 1, 1 << 24 | 1, 1 << 53 | 1, (1 << 53) + 3];
             // A value whose two roundings to SFloat differ from one, and its neighbours.
             let twice = 1_152_921_573_326_323_713;
             values.extend([twice - 1, twice, twice + 1, -twice]);
+            // The least such value, one that is no Int, and the tie below 2^64, with neighbours.
+            let (least, over) = (1 << 53 | 1 << 29 | 1, 1 << 63 | 1 << 39 | 1);
+            values.extend([least - 1, least, over - 1, over, over + 1024]);
+            values.extend([(1 << 64) - 1025, (1 << 64) - 1024]);
             for target in [1, 2, 3, 4, 10, 11, 12, 13] {
                 let (least, greatest) = range(target);
                 values.extend([least - 1, least, greatest, greatest + 1]);
