@@ -65,6 +65,8 @@ fn values() {
     let reason = Value::Err(Box::new(Value::Str(3)));
     let fails = Value::Tuple(vec![Value::Float(5.0), reason]);
     assert_eq!(value("curve_fails.out"), fails);
+    let demand = Value::Tuple(vec![Value::Float(4000.0), Value::BByte(440)]);
+    assert_eq!(value("demand.out"), demand);
     let pickups = Value::Tuple(vec![Value::BByte(100), Value::BByte(600)]);
     assert_eq!(value("pickup.out"), pickups);
 }

@@ -56,6 +56,11 @@ pub fn judge(image: &Image, budget: u64, room: usize) -> Judged {
 }
 
 impl Outside {
+    /// Whether a request of document 02 departs from the published machine there.
+    pub fn by_request(self) -> bool {
+        matches!(self, Outside::UIntCast)
+    }
+
     pub(crate) fn by_walk(walked: u64) -> Option<Outside> {
         (walked > MOST_COMPARED).then_some(Outside::TooLong)
     }

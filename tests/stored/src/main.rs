@@ -4,6 +4,7 @@
 //! what the lists hold, and fail if an instruction or a stop that the domain can have is missing.
 
 use generate::statistics::Statistics;
+use model::Outside;
 use std::collections::BTreeMap;
 use std::io::Write;
 use std::path::{Path, PathBuf};
@@ -60,7 +61,7 @@ fn made() -> Result<Vec<Made>, String> {
     files.push((replay::file(), text));
     for name in sheets::names()? {
         let image = sheets::image(&name)?;
-        let answer = answered(image.as_bytes(), oracle::answer(image.as_bytes()))?;
+        let answer = sheet_answer(image.as_bytes())?;
         say!("{name}: {answer}");
         let file = |end: &str| sheets::folder().join(format!("{name}.{end}"));
         files.push((file("img"), image));
@@ -77,6 +78,16 @@ fn answered(image: &[u8], answer: String) -> Result<String, String> {
             let shown = String::from_utf8_lossy(image);
             Err(format!("{shown}has no answer to store: {answer}"))
         }
+    }
+}
+
+/// What a sheet gives: the published machine's answer, or the model's where a request of document 02
+/// departs from that machine.
+fn sheet_answer(image: &[u8]) -> Result<String, String> {
+    let answered_by = oracle::answered(&[image.to_vec()]).remove(0);
+    match answered_by.judged {
+        Ok((_, run)) if run.outside.is_some_and(Outside::by_request) => Ok(run.answer.to_string()),
+        _ => answered(image, answered_by.line),
     }
 }
 
