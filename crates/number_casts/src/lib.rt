@@ -178,7 +178,7 @@ fn low_word(x: f64) -> u64
     }
 }
 
-// The casts that a sheet makes most, by their words: an Int or a UInt to Float, and a Float to Int. A UInt's word is that of the Int that it is cast to.
+// The casts that a sheet makes most, by their words: an Int to Float, a UInt to Float, and a Float to Int. A UInt to Int keeps its word.
 pub fn int_to_float_word(p: u64) -> u64
     ensures { λ r. ⌜ Ieee.ofBits binary64 r ≡ Ieee.ofInt binary64 (twosComplement 63 p) ⌝ }
 {

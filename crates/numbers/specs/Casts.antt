@@ -1,4 +1,6 @@
 -- Cast: ten targets from ten kinds. Quoted is document 01, and document 02 where it says so.
+use mathlib.Core.Path.{_≡_}
+use mathlib.Core.Bool.{true}
 use mathlib.Core.List.{List, [], _∷_}
 use lib.IntN.{ℤ}
 use lib.Dec.{eqb}
@@ -45,7 +47,8 @@ asFloat (integer k z) = Ieee.ofInt binary64 z
 asFloat (double x) = x
 asFloat (single x) = x
 
--- "Target 0 then keeps the low 64 bits as a signed number; every other integer target gives 42 outside its range"
+-- "Target 0 then keeps the low 64 bits as a signed number; every other integer target gives 42 outside its range", and of a UInt "target 0 keeps the
+-- low 64 bits as a signed number; others are 42 out of range" (document 02, E1)
 unfoldable pub castInteger : IntKind → ℤ → NumberAnswer
 castInteger k z = pick (eqb (intKindCode k) 1) (Value (Int (wrapping I64 z))) (pick (inRange k z) (Value (asKind k z)) InvalidCast)
 
@@ -59,3 +62,7 @@ castTo ToSFloat z x = Value (SFloat (nearestBinary32 x))
 -- value counts, and not the kind that it comes with.
 unfoldable pub castOf : CastTarget → Number → NumberAnswer
 castOf t a = castTo t (truncated (scalarOf a)) (asFloat (scalarOf a))
+
+-- so for every integer of the eight kinds there is one law
+abbrev pub CastByValue : Type 0
+CastByValue = (t : CastTarget) (k : IntKind) (z : ℤ) → inRange k z ≡ true → castOf t (asKind k z) ≡ castTo t z (Ieee.ofInt binary64 z)

@@ -1,4 +1,4 @@
--- `numbers::casts::cast_integer` meets its contract. Assumes nothing.
+-- `number_casts::cast_integer` meets its contract. Assumes nothing.
 use borrow.Author.Needs.{needs}
 use Rattle.number_operands.specs.Operands.{valueOf}
 use Rattle.number_casts.proofs.cast_integer.Statement.{statement}

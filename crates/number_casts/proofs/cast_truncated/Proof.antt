@@ -1,4 +1,4 @@
--- `numbers::casts::cast_truncated` meets its contract, by the float's whole part. Assumes nothing.
+-- `number_casts::cast_truncated` meets its contract, by the float's whole part. Assumes nothing.
 use borrow.Author.Needs.{needs}
 use mathlib.Core.Path.{ap, _∙_}
 use mathlib.Core.Bool.{true, false}

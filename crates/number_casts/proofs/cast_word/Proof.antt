@@ -1,4 +1,4 @@
--- `numbers::casts::cast_word` meets its contract: target Int first, then the range. Assumes nothing.
+-- `number_casts::cast_word` meets its contract: target Int first, then the range. Assumes nothing.
 use borrow.Author.Needs.{needs}
 use mathlib.Core.Path.{sym, ap, _∙_}
 use Rattle.numbers.specs.declared.NumberAnswer.the-variants.{Value}

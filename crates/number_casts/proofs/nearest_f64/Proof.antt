@@ -1,4 +1,4 @@
--- `numbers::casts::nearest_f64` meets its contract: rounding to nearest even is the same on both sides of zero. Assumes nothing.
+-- `number_casts::nearest_f64` meets its contract: rounding to nearest even is the same on both sides of zero. Assumes nothing.
 use borrow.Author.Needs.{needs}
 use mathlib.Core.Path.{sym, ap, _∙_}
 use lib.Ieee.{binary64, neg, ofInt}

@@ -1,4 +1,4 @@
--- `numbers::casts::whole_part` meets its contract, by the exponent. Assumes nothing.
+-- `number_casts::whole_part` meets its contract, by the exponent. Assumes nothing.
 use borrow.Author.Needs.{needs}
 use mathlib.Core.Path.{refl}
 use Prim.Native.Nat.{_%_, _^_}
