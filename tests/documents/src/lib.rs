@@ -60,10 +60,14 @@ fn targets(line: &str) -> impl Iterator<Item = &str> {
         .filter(|target| !target.is_empty())
 }
 
-/// A link's target, from the top; `../` leads there from a folder of the top.
+/// A link's target, from the top; `../` leads to the folder that the document's folder is in.
 fn from(folder: &str, target: &str) -> String {
     match target.strip_prefix("../") {
-        Some(rest) => rest.to_string(),
+        Some(rest) => {
+            let own = folder.trim_end_matches('/');
+            let above = own.rfind('/').map_or("", |end| &own[..=end]);
+            format!("{above}{rest}")
+        }
         None => format!("{folder}{target}"),
     }
 }
@@ -162,6 +166,7 @@ mod tests {
         assert_eq!(found("[x](IMAGE.md#code)"), [["docs/IMAGE.md"]]);
         assert_eq!(found("[x](https://example.org/a) [y](#code)").len(), 0);
         assert_eq!(found("[rl](../rl)"), [["rl"]]);
+        assert_eq!(from("docs/requests/", "../IMAGE.md"), "docs/IMAGE.md");
     }
 
     #[test]

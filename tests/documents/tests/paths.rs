@@ -1,8 +1,12 @@
-//! Every path that README.md, CONTRIBUTING.md or a document of docs/ names is there. The specification is as it was given, and is not read.
+//! Every path that README.md, CONTRIBUTING.md or a document of docs/ or docs/requests/ names is there. The specification and the requests are as
+//! they were given, and are not read.
 
 use documents::{is_there, paths};
 use std::fs;
 use std::path::{Path, PathBuf};
+
+/// What was given to us.
+const GIVEN: [&str; 2] = ["01-scope.md", "02-change-requests.md"];
 
 fn names(folder: &Path) -> Vec<String> {
     let entries = fs::read_dir(folder).expect("a folder");
@@ -20,12 +24,11 @@ fn every_path_named_is_there() {
         ("", "README.md".to_string()),
         ("", "CONTRIBUTING.md".to_string()),
     ];
-    let in_docs = names(&top.join("docs")).into_iter();
-    documents.extend(
-        in_docs
-            .filter(|name| name.ends_with(".md") && name != "01-scope.md")
-            .map(|name| ("docs/", name)),
-    );
+    for folder in ["docs/", "docs/requests/"] {
+        let ours = names(&top.join(folder)).into_iter();
+        let ours = ours.filter(|name| name.ends_with(".md") && !GIVEN.contains(&name.as_str()));
+        documents.extend(ours.map(|name| (folder, name)));
+    }
     let (mut looked_at, mut missing) = (0, Vec::new());
     for (folder, name) in documents {
         let text = fs::read_to_string(top.join(folder).join(&name)).expect("a document");
