@@ -4,7 +4,7 @@
 //!
 //! `compare --seed N` takes other images of the same sorts, `compare --times N` N times as many.
 //!
-//! - Inside document 01's domain the machine's answer is held to the published Rust's: the bytes of the
+//! - Inside the domain (docs/DIFFERENCES.md) the machine's answer is held to the published Rust's: the bytes of the
 //!   value or the number of the stop, its place, and the count.
 //! - On every image, in the domain or not, it is held to the model's, with the runner's budget and room
 //!   and with smaller ones; refusals and the stack check too.

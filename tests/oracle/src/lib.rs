@@ -1,5 +1,5 @@
 //! The oracle: what the published machine answers for an image, in the runner's words. The model
-//! decides whether a run lies in document 01's domain; the answer itself comes from the published
+//! decides whether a run lies in the domain; the answer itself comes from the published
 //! machine, which runs in a process of its own because nothing keeps it from panicking or from
 //! reading outside its vectors.
 //!

@@ -1,4 +1,4 @@
-//! The stored answers for numbers are those of the published machine, and the model has the same.
+//! The stored answers for numbers are those of the published machine, but for casts of a UInt, and the model has the same of all.
 
 use image::{Chunk, Constant, INSTRUCTIONS, Image};
 use model::Answer;

@@ -1,4 +1,4 @@
-//! Writes the published machine's answers for numbers to standard output: the stored file
+//! Writes the published machine's answers for numbers, and the model's for casts of a UInt, to standard output: the stored file
 //! `crates/number_vectors/stdin`, which the program of that name replays. `oracle::numbers` says what a
 //! line holds.
 
