@@ -41,7 +41,7 @@ use Rattle.definition.specs.Operation.{Answer, got, new, bad}
 use Rattle.definition.specs.Arrays.{arrLen}
 use Rattle.definition.specs.Constants.{heads, constantHead, constantAt, functionAt}
 use Rattle.definition.specs.KeptValues.{Closed, scalarFits, wellFormed, ValuesWellFormed}
-use Rattle.definition.proofs.Judged.{cond-elim, false-not-true}
+use Rattle.definition.proofs.Judged.{cond-elim}
 use Rattle.definition.proofs.Keeps.{All, all-at, loads-kept}
 use Rattle.definition.proofs.KeptValues.{run-kept}
 
@@ -112,26 +112,16 @@ low-lt : (b : ℕ) (z : ℤ) → lowBits b z < 2 ^ b
 low-lt b (pos n) = mod-lt n (pow-pos b)
 low-lt b (negsuc n) = let p : 0 < 2 ^ b = pow-pos b in omega arith
 
-wrap-signed : (k : IntKind) (z : ℤ) → isSigned k ≡ true → suc (bitsOf k - 1) ≡ bitsOf k → inRange k (wrapping k z) ≡ true
+-- the low 64 bits, as a signed number
+wrapped-fits : (z : ℤ) → inRange I64 (wrapping I64 z) ≡ true
 unfolding wrapping
-wrap-signed k z e b =
-    rw e (signed-fits k (lowBits (bitsOf k) z) e (subst⁻¹ (λ (n : ℕ). lowBits (bitsOf k) z < 2 ^ n) b (low-lt (bitsOf k) z)))
-
-wrapped-fits : (k : IntKind) (z : ℤ) → isSigned k ≡ true → inRange k (wrapping k z) ≡ true
-wrapped-fits I64 z e = wrap-signed I64 z e refl
-wrapped-fits U64 z e = false-not-true e
-wrapped-fits I32 z e = wrap-signed I32 z e refl
-wrapped-fits U32 z e = false-not-true e
-wrapped-fits U8 z e = false-not-true e
-wrapped-fits I8 z e = wrap-signed I8 z e refl
-wrapped-fits U16 z e = false-not-true e
-wrapped-fits I16 z e = wrap-signed I16 z e refl
+wrapped-fits z = signed-fits I64 (lowBits 64 z) refl (low-lt 64 z)
 
 as-test : {b : Bool} → b ≡ true → T b
 as-test e = subst⁻¹ T e tt
 
 negate-fits : (x : Scalar) → scalarFits x ≡ true → Fits (negateScalar x)
-negate-fits (integer k z) t = picks (isSigned k) (Value (asKind k (wrapping k (negℤ z)))) WrongKind (λ e. as-kind k (wrapping k (negℤ z)) (wrapped-fits k (negℤ z) e)) tt
+negate-fits (integer k z) t = picks (isSigned k) (checked k (negℤ z)) WrongKind (λ e. checked-fits k (negℤ z)) tt
 negate-fits (double x) t = is-true (fits binary64 (Ieee.neg x)) (neg-fits binary64 x (as-test t))
 negate-fits (single x) t = is-true (fits binary32 (Ieee.neg x)) (neg-fits binary32 x (as-test t))
 
@@ -142,7 +132,7 @@ negated a t = negate-fits (scalarOf a) t
 cast-integer-fits : (k : IntKind) (z : ℤ) → Fits (castInteger k z)
 unfolding castInteger
 cast-integer-fits k z = picks (eqb (intKindCode k) 1) (Value (Int (wrapping I64 z))) (pick (inRange k z) (Value (asKind k z)) InvalidCast) (λ e.
-    wrapped-fits I64 z refl) (picks (inRange k z) (Value (asKind k z)) _ (as-kind k z) tt)
+    wrapped-fits z) (picks (inRange k z) (Value (asKind k z)) _ (as-kind k z) tt)
 
 as-float-fits : (x : Scalar) → scalarFits x ≡ true → T (fits binary64 (asFloat x))
 as-float-fits (integer k z) t = ofInt-fits binary64 z

@@ -1,2 +1,3 @@
--- One file: a checked sum or difference of two i64 in the type itself.
+-- A checked sum or difference of two i64, and a number with a sign negated, both in the type itself.
 pub mod Native
+pub mod Negates

@@ -148,7 +148,7 @@ end-word false = refl
 -- the low bits of a number, from those of its magnitude
 pub signed-word : (s : Bool) (n r : ℕ) → r ≡ n % 2 ^ 64 → lowBits 64 (signed s r) ≡ lowBits 64 (signed s n)
 signed-word false n r e = ap (λ (k : ℕ). k % 2 ^ 64) e ∙ low-of-64 U64 (pos n)
-signed-word true n r e = neg-word (pos n) r e
+signed-word true n r e = neg-word n r e
 
 -- ---- what `cast_truncated` knows of a float x with the bits b, by its whole part
 module _ (x : Float) (b : ℕ) (f : T (fits binary64 x)) (h : b < 2 ^ 64) (e : b ≡ toBits binary64 x) where

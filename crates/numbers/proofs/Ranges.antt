@@ -8,7 +8,7 @@ use lib.Dec.{leb, lit<, leb·zero, leb·suc-zero}
 use lib.Pow.{pow-pos}
 use lib.IntN.{ℤ, pos, negsuc, negℤ}
 use lib.Signed.{mag}
-use borrow.Author.Tests.{leb-true, lt-leb}
+use borrow.Author.Tests.{leb-true, lt-leb, le-leb}
 use Rattle.numbers.specs.declared.IntKind.{IntKind}
 use Rattle.numbers.specs.declared.IntKind.the-variants.{I64, U64, I32, U32, U8, I8, U16, I16}
 use Rattle.numbers.specs.declared.NumberAnswer.the-variants.{Value, Overflow}
@@ -29,6 +29,11 @@ pub in-signed : (k : IntKind) (z : ℤ) → isSigned k ≡ true → inRange k z 
 in-signed k (pos n) s h =
     less-one n (2 ^ (bitsOf k - 1)) (pow-pos (bitsOf k - 1)) (leb-true _ _ (subst (λ (b : Bool). leb n (cond b (2 ^ (bitsOf k - 1)) (2 ^ bitsOf k) - 1) ≡ true) s h))
 in-signed k (negsuc n) s h = leb-true _ _ (subst (λ (b : Bool). leb (suc n) (cond b (2 ^ (bitsOf k - 1)) 0) ≡ true) s h)
+
+-- and back
+pub signed-in : (k : IntKind) (z : ℤ) → isSigned k ≡ true → mag z < 2 ^ (bitsOf k - 1) → inRange k z ≡ true
+signed-in k (pos n) s l = subst (λ (b : Bool). leb n (cond b (2 ^ (bitsOf k - 1)) (2 ^ bitsOf k) - 1) ≡ true) (sym s) (le-leb n (2 ^ (bitsOf k - 1) - 1) (omega arith))
+signed-in k (negsuc n) s l = subst (λ (b : Bool). leb (suc n) (cond b (2 ^ (bitsOf k - 1)) 0) ≡ true) (sym s) (le-leb (suc n) (2 ^ (bitsOf k - 1)) l)
 
 -- a kind without one
 pub in-unsigned : (k : IntKind) (n : ℕ) → isSigned k ≡ false → inRange k (pos n) ≡ true → n < 2 ^ bitsOf k

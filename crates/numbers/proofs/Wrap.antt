@@ -132,16 +132,12 @@ word-neg n r h l e = from-zero n r h l e ∙ ap (λ (k : ℕ). (2 ^ 64 - k) % 2 
 pub word-pos : (n : ℕ) → n < 2 ^ 64 → n ≡ lowBits 64 (pos n)
 word-pos n h = sym (mod-eq-of-lt h)
 
--- the word of -z, from the word of z
-pub neg-word : (z : ℤ) (w : ℕ) → w ≡ lowBits 64 z → lowBits 64 (negℤ (pos w)) ≡ lowBits 64 (negℤ z)
-neg-word (pos n) w e = low-neg w ∙ ap (λ (k : ℕ). (2 ^ 64 - k) % 2 ^ 64) (again n w e) ∙ sym (low-neg n)
+-- the word of -n, from the word of n
+pub neg-word : (n w : ℕ) → w ≡ n % 2 ^ 64 → lowBits 64 (negℤ (pos w)) ≡ lowBits 64 (negℤ (pos n))
+neg-word n w e = low-neg w ∙ ap (λ (k : ℕ). (2 ^ 64 - k) % 2 ^ 64) (again n w e) ∙ sym (low-neg n)
   where
     again : (n w : ℕ) → w ≡ n % 2 ^ 64 → w % 2 ^ 64 ≡ n % 2 ^ 64
     again n w e = omega arith
-neg-word (negsuc n) w e = low-neg w ∙ back n w e
-  where
-    back : (n w : ℕ) → w ≡ 2 ^ 64 - suc (n % 2 ^ 64) → (2 ^ 64 - w % 2 ^ 64) % 2 ^ 64 ≡ suc n % 2 ^ 64
-    back n w e = omega arith
 
 -- ---- a word with its highest bit set, as a signed number of the width u: -1 - (2^bits - 1 - n)
 pub record Upper (u : Width) (n : ℕ) : Type 0 where

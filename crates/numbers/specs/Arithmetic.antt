@@ -1,4 +1,7 @@
--- Add, Sub, Mul, Div and Negate. What an integer kind does is one definition over ℤ, with the kind as its argument.
+-- Add, Sub, Mul, Div and Negate. What an integer kind does is one definition over ℤ, with the kind as its argument. Quoted is document 01, and
+-- document 02 where it says so.
+use mathlib.Core.Path.{_≡_}
+use mathlib.Core.Bool.{true}
 use lib.IntN.{ℤ, negℤ, natAbs, _+ℤ_, _-ℤ_, _*ℤ_}
 use lib.Signed.{quotZ}
 use lib.Dec.{eqb}
@@ -9,7 +12,7 @@ use Rattle.numbers.specs.declared.Number.the-variants.{Float, SFloat}
 use Rattle.numbers.specs.declared.NumberAnswer.{NumberAnswer}
 use Rattle.numbers.specs.declared.NumberAnswer.the-variants.{Value, Overflow, ZeroDivisor, WrongKind}
 use Rattle.numbers.specs.declared.IntKind.{IntKind}
-use Rattle.numbers.specs.Kinds.{isSigned, inRange, asKind, wrapping}
+use Rattle.numbers.specs.Kinds.{isSigned, least, inRange, asKind}
 use Rattle.numbers.specs.Scalars.{Scalar, integer, double, single, ScalarPair, integers, doubles, singles, mixed, scalarOf, sameKind}
 use Rattle.numbers.specs.Answers.{pick}
 
@@ -41,11 +44,18 @@ mulOf a b = arithmetic (λ k x y. checked k (x *ℤ y)) Ieee.mul (sameKind (scal
 abbrev pub divOf : Number → Number → NumberAnswer
 divOf a b = arithmetic checkedDiv Ieee.div (sameKind (scalarOf a) (scalarOf b))
 
--- "Negate serves Int, SInt, BSByte, SByte, Float, SFloat; the least integer negated wraps to itself"
+-- "Negate serves Int, SInt, BSByte, SByte, Float, SFloat", and "Negate of the least Int, SInt, BSByte or SByte shall stop with 37, like any other
+-- result out of range" (document 02, E5)
 abbrev pub negateScalar : Scalar → NumberAnswer
-negateScalar (integer k z) = pick (isSigned k) (Value (asKind k (wrapping k (negℤ z)))) WrongKind
+negateScalar (integer k z) = pick (isSigned k) (checked k (negℤ z)) WrongKind
 negateScalar (double x) = Value (Float (Ieee.neg x))
 negateScalar (single x) = Value (SFloat (Ieee.neg x))
 
 unfoldable pub negateOf : Number → NumberAnswer
 negateOf a = negateScalar (scalarOf a)
+
+-- so for every kind with a sign there is one law: the least number of the kind is 37, any other has its negative in the kind
+abbrev pub NegateInRange : Type 0
+NegateInRange = (k : IntKind) → isSigned k ≡ true →
+    (negateOf (asKind k (least k)) ≡ Overflow)
+    × ((z : ℤ) → inRange k z ≡ true → (z ≡ least k → ⊥) → negateOf (asKind k z) ≡ Value (asKind k (negℤ z)))

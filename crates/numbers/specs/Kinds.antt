@@ -1,7 +1,7 @@
 -- The ten kinds of numbers, and what every integer kind has: its range, and what a number out of range wraps to.
 use Prim.Native.Nat.{ℕ, suc, _-_, _%_, _^_}
 use mathlib.Core.Bool.{Bool, true, false, cond}
-use lib.IntN.{ℤ, pos, negsuc, natAbs}
+use lib.IntN.{ℤ, pos, negsuc, negℤ, natAbs}
 use lib.Dec.{leb, ltb}
 use Rattle.numbers.specs.declared.Number.{Number}
 use Rattle.numbers.specs.declared.Number.the-variants.{Int, UInt, SInt, SUInt, Float, SFloat, Byte, SByte, BByte, BSByte}
@@ -58,6 +58,9 @@ leastMagnitude k = cond (isSigned k) (2 ^ (bitsOf k - 1)) 0
 
 abbrev pub greatest : IntKind → ℕ
 greatest k = cond (isSigned k) (2 ^ (bitsOf k - 1)) (2 ^ bitsOf k) - 1
+
+abbrev pub least : IntKind → ℤ
+least k = negℤ (pos (leastMagnitude k))
 
 abbrev pub inRange : IntKind → ℤ → Bool
 inRange k (pos n) = leb n (greatest k)

@@ -28,6 +28,8 @@ pub enum Outside {
     LocalNotLive,
     /// a UInt is cast (document 02, E1)
     UIntCast,
+    /// the least number of a kind is negated (document 02, E5)
+    LeastNegated,
     Most,
     Budget,
     Room,
@@ -58,7 +60,7 @@ pub fn judge(image: &Image, budget: u64, room: usize) -> Judged {
 impl Outside {
     /// Whether a request of document 02 departs from the published machine there.
     pub fn by_request(self) -> bool {
-        matches!(self, Outside::UIntCast)
+        matches!(self, Outside::UIntCast | Outside::LeastNegated)
     }
 
     pub(crate) fn by_walk(walked: u64) -> Option<Outside> {
@@ -82,6 +84,7 @@ impl fmt::Display for Outside {
             Outside::LoopBeforeStart => "a Loop goes before offset 0",
             Outside::LocalNotLive => "the Rust panics at a local slot that is not live",
             Outside::UIntCast => "a UInt is cast, which the Rust does not do",
+            Outside::LeastNegated => "the least of a kind is negated, which wraps in the Rust",
             Outside::Most => "a most is passed",
             Outside::Budget => "the budget is used up",
             Outside::Room => "the result is too long",

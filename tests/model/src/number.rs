@@ -78,6 +78,12 @@ impl Whole {
     fn holds(self, n: i128) -> bool {
         self.least() <= n && n <= self.greatest()
     }
+
+    /// The number of this kind, or 37 outside its range.
+    fn checked(self, n: i128) -> Result<Number, u8> {
+        let number = Number::Whole(self, n);
+        self.holds(n).then_some(number).ok_or(OVERFLOW)
+    }
 }
 
 impl Number {
@@ -99,11 +105,11 @@ impl Number {
         }
     }
 
+    /// The least of a kind has no negative there: 37 (document 02, E5).
     pub fn negate(self) -> Result<Number, u8> {
         match self {
             Number::Whole(kind, _) if kind.least() == 0 => Err(NOT_SERVED),
-            Number::Whole(kind, n) if n == kind.least() => Ok(self),
-            Number::Whole(kind, n) => Ok(Number::Whole(kind, -n)),
+            Number::Whole(kind, n) => kind.checked(-n),
             Number::Float(f) => Ok(Number::Float(-f)),
             Number::SFloat(f) => Ok(Number::SFloat(-f)),
         }
@@ -163,8 +169,7 @@ fn whole_arithmetic(what: Arithmetic, kind: Whole, a: i128, b: i128) -> Result<N
         Arithmetic::Div if b == 0 => return Err(ZERO_DIVISOR),
         Arithmetic::Div => Some(a / b),
     };
-    let fits = exact.filter(|n| kind.holds(*n)).ok_or(OVERFLOW)?;
-    Ok(Number::Whole(kind, fits))
+    kind.checked(exact.ok_or(OVERFLOW)?)
 }
 
 /// The target of a cast, by the cast's number.

@@ -1,7 +1,8 @@
 //! The published machine's answers for numbers, one line an operation: arithmetic, negation, ordered
 //! comparison and casts at edge values and at a sample drawn with a fixed seed. Each is a run of a
-//! chunk of `Const`, `Const` again if there are two operands, the operation and `Return`. A cast of a
-//! UInt, which the published machine does not do, has the model's answer (document 02, E1).
+//! chunk of `Const`, `Const` again if there are two operands, the operation and `Return`. Where a
+//! request of document 02 departs from the published machine, the answer is the model's: at casts of a
+//! UInt (E1) and where the least number of a kind is negated (E5).
 //!
 //! A line has 56 upper-case hexadecimal digits and no spaces: the instruction's number (2), the kind
 //! code of the first operand (2) and its payload as a 64-bit word (16, its own width, zeros in
@@ -13,7 +14,7 @@
 mod edges;
 
 use image::{Chunk, Constant, Image, op};
-use model::{Answer, Outside};
+use model::Answer;
 use published::Ending;
 use std::collections::HashSet;
 
@@ -61,8 +62,8 @@ impl Operand {
     }
 }
 
-/// The published machine's answer, or the model's where a UInt is cast: a kind and its word, or the
-/// fault's number and zero.
+/// The published machine's answer, or the model's where a request departs from it: a kind and its
+/// word, or the fault's number and zero.
 fn answer(name: &str, constants: &[Operand], operands: &[u16]) -> Operand {
     let mut chunk = Chunk::default();
     for (index, constant) in constants.iter().enumerate() {
@@ -82,7 +83,7 @@ fn answer(name: &str, constants: &[Operand], operands: &[u16]) -> Operand {
             Ending::Stop { number, .. } => Operand::of_fault(number),
             other => panic!("a number operation ended in {other:?}"),
         },
-        Some(Outside::UIntCast) => match judged.answer {
+        Some(why) if why.by_request() => match judged.answer {
             Answer::Value { bytes, .. } => Operand::of_result(&bytes),
             Answer::Stop { number, .. } => Operand::of_fault(number),
         },

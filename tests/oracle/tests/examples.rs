@@ -6,7 +6,7 @@ use model::{BUDGET, Checked, ROOM};
 
 /// As many rows, rows marked `rust` and passing images as there were when this was written: fewer would mean that
 /// some are not read.
-const ROWS: usize = 264;
+const ROWS: usize = 268;
 const RUST_ROWS: usize = 151;
 const PASSING: usize = 2;
 

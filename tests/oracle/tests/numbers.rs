@@ -1,4 +1,5 @@
-//! The stored answers for numbers are those of the published machine, but for casts of a UInt, and the model has the same of all.
+//! The stored answers for numbers are those of the published machine, but where a request of document 02 departs from it, and the
+//! model has the same of all.
 
 use image::{Chunk, Constant, INSTRUCTIONS, Image};
 use model::Answer;

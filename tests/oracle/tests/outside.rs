@@ -2,7 +2,7 @@
 //! asked for, and what a request of document 02 has changed. With each, the documents' answer by the
 //! model.
 
-use image::Constant::{Function, Int, Null, Str, UInt};
+use image::Constant::{BSByte, Function, Int, Null, SByte, SInt, Str, UInt};
 use image::{Chunk, Image, op};
 use written::{Written, bytes};
 
@@ -120,6 +120,27 @@ const CASES: &[Case] = &[
         &[(0, &[UInt(256)], "Const 0; Cast 8; Return")],
         "stop 42 2 0000 0003",
         "stop 42 2 0000 0003",
+    ),
+    // E5
+    (
+        &[(0, &[Int(i64::MIN)], "Const 0; Negate; Return")],
+        "stop 37 2 0000 0003",
+        "value 3 018000000000000000",
+    ),
+    (
+        &[(0, &[SInt(i32::MIN)], "Const 0; Negate; Return")],
+        "stop 37 2 0000 0003",
+        "value 3 0380000000",
+    ),
+    (
+        &[(0, &[BSByte(i16::MIN)], "Const 0; Negate; Return")],
+        "stop 37 2 0000 0003",
+        "value 3 0D8000",
+    ),
+    (
+        &[(0, &[SByte(i8::MIN)], "Const 0; Negate; Return")],
+        "stop 37 2 0000 0003",
+        "value 3 0B80",
     ),
 ];
 

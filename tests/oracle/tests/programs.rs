@@ -50,9 +50,9 @@ const PROGRAMS: &[Program] = &[
         "value 4 01FFFFFFFFFFFFFFFD",
     ),
     (
-        "Negate SByte -128",
-        &[(0, &[SByte(-128)], "Const 0; Negate; Return")],
-        "value 3 0B80",
+        "Negate SByte -127",
+        &[(0, &[SByte(-127)], "Const 0; Negate; Return")],
+        "value 3 0B7F",
     ),
     (
         "Negate a Byte",

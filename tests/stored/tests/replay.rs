@@ -64,8 +64,8 @@ fn endings(list: &str) -> &'static [&'static str] {
         ],
         CHECKS => &["pass", "fault 10 ", "fault 11 ", "fault 12 ", "fault 13 "],
         _ => &[
-            "stop 30 ", "stop 31 ", "stop 32 ", "stop 33 ", "stop 34 ", "stop 42 ", "stop 45 ",
-            "stop 46 ", "stop 47 ", "value ",
+            "stop 30 ", "stop 31 ", "stop 32 ", "stop 33 ", "stop 34 ", "stop 37 ", "stop 42 ",
+            "stop 45 ", "stop 46 ", "stop 47 ", "value ",
         ],
     }
 }

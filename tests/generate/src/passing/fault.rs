@@ -119,6 +119,10 @@ impl Body<'_> {
             }
             1 if kind.is_signed() => {
                 self.push(low);
+                // The published machine can't be asked for it (document 02, E5).
+                if self.rng().aside_one_in(4) {
+                    return self.op("Negate", &[]);
+                }
                 self.push(kind.of(-1));
                 let name = *self.rng().pick(&["Div", "Mul"]);
                 self.op(name, &[]);

@@ -1,88 +1,117 @@
--- `numbers::negation::negate` meets its contract: each arm is one of the definition's. Assumes nothing.
+-- `number_arithmetic::negation::negate` meets its contract: each integer by one law of its kind and width. Assumes nothing.
 use borrow.Author.Needs.{needs}
-use mathlib.Core.Path.{_≡_, sym, ap, _∙_}
-use mathlib.Core.Bool.{Bool, true, false}
-use lib.IntN.{ℤ, negℤ}
-use Rattle.numbers.specs.declared.Number.{Number}
-use Rattle.numbers.specs.declared.NumberAnswer.the-variants.{Value, WrongKind}
-use Rattle.numbers.specs.declared.IntKind.{IntKind}
-use Rattle.numbers.specs.Kinds.{isSigned, asKind, wrapping}
-use Rattle.numbers.specs.Scalars.{integer}
-use Rattle.number_operands.specs.Operands.{valueOf}
-use Rattle.numbers.specs.Answers.{pick}
-use Rattle.numbers.specs.Arithmetic.{negateOf, negateScalar}
-use Rattle.number_operands.proofs.Pairs.{stands}
+use mathlib.Core.Path.{refl, sym, ap, _∙_}
+use Prim.Native.Nat.{_^_}
+use mir.Syntax.{w8, w16, w32, w64}
+use Rattle.numbers.specs.declared.IntKind.the-variants.{I64, I32, I16, I8}
+use Rattle.numbers.specs.Arithmetic.{negateOf}
+use Rattle.number_arithmetic.proofs.Negates.{over, negative-fits, exact, not-served}
 use Rattle.number_arithmetic.proofs.negation.negate.Statement.{statement}
 use Rattle.number_arithmetic.proofs.negation.negate.Tie as tie
 
-serves : (k : IntKind) (z : ℤ) {r : Number} → isSigned k ≡ true → r ≡ asKind k (wrapping k (negℤ z)) → Value r ≡ negateScalar (integer k z)
-serves k z s e = ap Value e ∙ sym (ap (λ (b : Bool). pick b (Value (asKind k (wrapping k (negℤ z)))) WrongKind) s)
+enum-known-a : tie.Need-enum-known-a
+enum-known-a c = search needs
 
-serves-not : (k : IntKind) (z : ℤ) → isSigned k ≡ false → WrongKind ≡ negateScalar (integer k z)
-serves-not k z s = sym (ap (λ (b : Bool). pick b (Value (asKind k (wrapping k (negℤ z)))) WrongKind) s)
+sub-t11 : tie.Need-sub-t11
+sub-t11 c = negative-fits I64 w64 (2 ^ 63) refl refl refl refl (c .before .before .a .given .0 .0) (search needs) (c .if1 .left)
 
-operand-of-requires : tie.Need-operand-of-requires
-operand-of-requires c κs = search needs
+enum-known-a-2 : tie.Need-enum-known-a-2
+enum-known-a-2 c = search needs
 
-enum-known-k : tie.Need-enum-known-k
-enum-known-k c = search needs
+sub-t15 : tie.Need-sub-t15
+sub-t15 c = negative-fits I32 w32 (2 ^ 31) refl refl refl refl (c .before .before .a2 .given .0 .0) (search needs) (c .if2 .left)
 
-is-signed-requires : tie.Need-is-signed-requires
-is-signed-requires c κs = search needs
+enum-known-a-3 : tie.Need-enum-known-a-3
+enum-known-a-3 c = search needs
 
-negate-wrapping-requires : tie.Need-negate-wrapping-requires
-negate-wrapping-requires c κs = search needs
+sub-t19 : tie.Need-sub-t19
+sub-t19 c = negative-fits I16 w16 (2 ^ 15) refl refl refl refl (c .before .before .a3 .given .0 .0) (search needs) (c .if3 .left)
 
-enum-known-x : tie.Need-enum-known-x
-enum-known-x c = search needs
+enum-known-a-4 : tie.Need-enum-known-a-4
+enum-known-a-4 c = search needs
 
-enum-known-x-2 : tie.Need-enum-known-x-2
-enum-known-x-2 c = search needs
+sub-t23 : tie.Need-sub-t23
+sub-t23 c = negative-fits I8 w8 (2 ^ 7) refl refl refl refl (c .before .before .a4 .given .0 .0) (search needs) (c .if4 .left)
+
+enum-known-a-5 : tie.Need-enum-known-a-5
+enum-known-a-5 c = search needs
+
+enum-known-a-6 : tie.Need-enum-known-a-6
+enum-known-a-6 c = search needs
 
 returns : tie.Need-returns
-unfolding negateOf
 returns c =
-    let is-signed = c .before .before .is-signed in
-    let k2 = c .before .before .before .before .k in
-    let operand-of = c .before .before .before .before .before .before .operand-of in
-    let args = c .before .before .before .before .before .before .before .args in
-    serves (k2 .given .0 .0) (valueOf (k2 .given .0 .1 .0)) (sym (is-signed .ensures) ∙ (c .before .if1 .taken)) (c .negate-wrapping .ensures) ∙ ap
-    negateScalar (stands (args .a) (operand-of .result) (operand-of .ensures) (k2 .given .1))
+    let a = c .before .before .a in
+    over I64 w64 (2 ^ 63) refl refl refl refl (a .given .0 .0) (search needs) (c .if1 .taken) ∙ sym (ap negateOf (a .given .1))
 
 returns-2 : tie.Need-returns-2
-unfolding negateOf
 returns-2 c =
-    let k2 = c .before .before .before .k in
-    let operand-of = c .before .before .before .before .before .operand-of in
-    let args = c .before .before .before .before .before .before .args in
-    serves-not (k2 .given .0 .0) (valueOf (k2 .given .0 .1 .0)) (sym (c .before .is-signed .ensures) ∙ (c .if1 .left)) ∙ ap negateScalar (stands (args .a)
-    (operand-of .result) (operand-of .ensures) (k2 .given .1))
+    let a = c .before .before .a in
+    exact I64 w64 (2 ^ 63) refl refl refl refl (a .given .0 .0) (search needs) (c .if1 .left) ∙ sym (ap negateOf (a .given .1))
 
 returns-3 : tie.Need-returns-3
-unfolding negateOf
 returns-3 c =
-    let operand-of = c .before .before .before .operand-of in
-    let args = c .before .before .before .before .args in
-    ap negateScalar (stands (args .a) (operand-of .result) (operand-of .ensures) (c .before .x .given .1))
+    let a2 = c .before .before .a2 in
+    over I32 w32 (2 ^ 31) refl refl refl refl (a2 .given .0 .0) (search needs) (c .if2 .taken) ∙ sym (ap negateOf (a2 .given .1))
 
 returns-4 : tie.Need-returns-4
-unfolding negateOf
 returns-4 c =
-    let operand-of = c .before .before .before .operand-of in
-    let args = c .before .before .before .before .args in
-    ap negateScalar (stands (args .a) (operand-of .result) (operand-of .ensures) (c .before .x2 .given .1))
+    let a2 = c .before .before .a2 in
+    exact I32 w32 (2 ^ 31) refl refl refl refl (a2 .given .0 .0) (search needs) (c .if2 .left) ∙ sym (ap negateOf (a2 .given .1))
+
+returns-5 : tie.Need-returns-5
+returns-5 c =
+    let a3 = c .before .before .a3 in
+    over I16 w16 (2 ^ 15) refl refl refl refl (a3 .given .0 .0) (search needs) (c .if3 .taken) ∙ sym (ap negateOf (a3 .given .1))
+
+returns-6 : tie.Need-returns-6
+returns-6 c =
+    let a3 = c .before .before .a3 in
+    exact I16 w16 (2 ^ 15) refl refl refl refl (a3 .given .0 .0) (search needs) (c .if3 .left) ∙ sym (ap negateOf (a3 .given .1))
+
+returns-7 : tie.Need-returns-7
+returns-7 c =
+    let a4 = c .before .before .a4 in
+    over I8 w8 (2 ^ 7) refl refl refl refl (a4 .given .0 .0) (search needs) (c .if4 .taken) ∙ sym (ap negateOf (a4 .given .1))
+
+returns-8 : tie.Need-returns-8
+returns-8 c =
+    let a4 = c .before .before .a4 in
+    exact I8 w8 (2 ^ 7) refl refl refl refl (a4 .given .0 .0) (search needs) (c .if4 .left) ∙ sym (ap negateOf (a4 .given .1))
+
+returns-9 : tie.Need-returns-9
+unfolding negateOf
+returns-9 c = rw (c .before .a5 .given .1) refl
+
+returns-10 : tie.Need-returns-10
+unfolding negateOf
+returns-10 c = rw (c .before .a6 .given .1) refl
+
+returns-11 : tie.Need-returns-11
+returns-11 c = not-served (c .before .args .a) (c .match .keys7)
 
 pub negate-spec : {M : Type 1} → statement M
 negate-spec =
     tie.close
     (tie.spec
-    operand-of-requires
-    enum-known-k
-    is-signed-requires
-    negate-wrapping-requires
-    enum-known-x
-    enum-known-x-2
+    enum-known-a
+    sub-t11
+    enum-known-a-2
+    sub-t15
+    enum-known-a-3
+    sub-t19
+    enum-known-a-4
+    sub-t23
+    enum-known-a-5
+    enum-known-a-6
     returns
     returns-2
     returns-3
-    returns-4)
+    returns-4
+    returns-5
+    returns-6
+    returns-7
+    returns-8
+    returns-9
+    returns-10
+    returns-11)
