@@ -1,7 +1,7 @@
 // Integers by sign and magnitude, and by their bits in two's complement: what the eight integer kinds share.
 ghost use mathlib.Core.Path.{_≡_};
 ghost use lib.IntN.{pos};
-ghost use Rattle.numbers.specs.Kinds.{intKindCode, isSigned, leastMagnitude, greatest, inRange, asKind, lowBits, twosComplement, wrapping};
+ghost use Rattle.numbers.specs.Kinds.{intKindCode, leastMagnitude, greatest, inRange, asKind, lowBits, twosComplement, wrapping};
 ghost use Rattle.number_operands.specs.Operands.{valueOf};
 ghost use Rattle.numbers.specs.Arithmetic.{checked as checkedOf};
 use super::SignMagnitude;
@@ -21,21 +21,6 @@ pub fn int_kind_code(kind: IntKind) -> u8
         IntKind::I8 => 11,
         IntKind::U16 => 12,
         IntKind::I16 => 13,
-    }
-}
-
-pub fn is_signed(kind: IntKind) -> bool
-    ensures { λ r. ⌜ r ≡ isSigned kind ⌝ }
-{
-    match kind {
-        IntKind::I64 => true,
-        IntKind::U64 => false,
-        IntKind::I32 => true,
-        IntKind::U32 => false,
-        IntKind::U8 => false,
-        IntKind::I8 => true,
-        IntKind::U16 => false,
-        IntKind::I16 => true,
     }
 }
 

@@ -10,7 +10,6 @@ pub use integers::i32_of_word;
 pub use integers::i64_of_word;
 pub use integers::in_range;
 pub use integers::int_kind_code;
-pub use integers::is_signed;
 pub use integers::number_of_word;
 pub use integers::word_of;
 use numbers::IntKind;

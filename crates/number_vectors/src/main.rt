@@ -1,5 +1,6 @@
-// Replays the published Rust's answers on numbers against this repository's, and prints for each operation how many agree. For a Cast of a UInt,
-// which the Rust does not do, the list has the answers of tests/model (document 02, E1).
+// Replays the published Rust's answers on numbers against this repository's, and prints for each operation how many agree. Where a
+// request of document 02 departs from the Rust, the list has the answers of tests/model: at a Cast of a UInt, which the Rust does not do (E1), and
+// where the least number of a kind is negated, which wraps there (E5).
 // A line of the list has 57 bytes, in upper-case hexadecimal: the operation by its instruction number (2 digits), the kind code and the
 // payload of the first operand (2 and 16), those of the second (2 and 16; for Cast 00 and the target number, for Negate 00 and 0), the
 // kind code and the payload of the answer (2 and 16; 07 for a Bool, or the number of a fault and 0), and a line feed.

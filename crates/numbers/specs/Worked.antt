@@ -50,7 +50,8 @@ Row = Operation × Outcome
 -- UInt 1 to Int, 42", of which two change: "The proved value for UInt 1 to Int becomes 1" (document 02, E1), "The proved value for SByte -128 becomes
 -- 37" (document 02, E5). `negsuc n` is -(n + 1); `fin s m e` is the float m * 2^e, and `ten-19` below shows that the fifth row's is 10^19.
 -- Behind them, where a UInt has no Int of its value: "Integer targets take the exact value; target 0 keeps the low 64 bits as a signed number; others
--- are 42 out of range. Float targets round as for Int" (document 02, E1). One rounding would make the last row 2^63 + 2^40.
+-- are 42 out of range. Float targets round as for Int" (document 02, E1). One rounding would make the fifth of these 2^63 + 2^40.
+-- Last, at the ends of the range: "like any other result out of range" (document 02, E5).
 abbrev pub table : List Row
 table =
     (add (Int (pos (2 ^ 63 - 1))) (Int (pos 1)), fault 37)
@@ -70,6 +71,9 @@ table =
     ∷ (cast (UInt (2 ^ 64 - 1)) (ToInteger U32), fault 42)
     ∷ (cast (UInt (2 ^ 64 - 1)) ToFloat, value (Float (fin false 1 (pos 64))))
     ∷ (cast (UInt (2 ^ 63 + 2 ^ 39 + 1)) ToSFloat, value (SFloat (fin false 1 (pos 63))))
+    ∷ (negate (SByte (negsuc 126)), value (SByte (pos 127)))
+    ∷ (negate (SByte (pos 127)), value (SByte (negsuc 126)))
+    ∷ (negate (Int (negsuc (2 ^ 63 - 1))), fault 37)
     ∷ []
 
 -- every row: the answer is the one that the documents give
