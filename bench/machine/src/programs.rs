@@ -24,7 +24,7 @@ impl Program {
     }
 }
 
-pub const PROGRAMS: [Program; 12] = [
+pub const PROGRAMS: [Program; 13] = [
     Program {
         name: "Int arithmetic",
         rust: true,
@@ -66,6 +66,13 @@ pub const PROGRAMS: [Program; 12] = [
         text: DIVISIONS,
         kind: "Int",
         rounds: 560_000,
+    },
+    Program {
+        name: "Negate, each kind",
+        rust: true,
+        text: NEGATIONS,
+        kind: "Int",
+        rounds: 299_999,
     },
     Program {
         name: "Cast, Float Less",
@@ -247,6 +254,77 @@ again:
   Loop again
 done:
   GetLocal sum
+  Return
+";
+
+/// Each kind that Negate serves, negated in its slot; 34 instructions a round.
+const NEGATIONS: &str = "
+chunk top/0
+  local int = 0
+  local sint = 1
+  local bsbyte = 2
+  local sbyte = 3
+  local float = 4
+  local sfloat = 5
+  local i = 6
+  PushScope
+  Const Int 7
+  DefineLocal int
+  Const SInt 7
+  DefineLocal sint
+  Const BSByte 7
+  DefineLocal bsbyte
+  Const SByte 7
+  DefineLocal sbyte
+  Const Float 7.0
+  DefineLocal float
+  Const SFloat 7.0
+  DefineLocal sfloat
+  Const Int 0
+  DefineLocal i
+again:
+  GetLocal i
+  Const Int ROUNDS
+  Less
+  JumpIfFalse done
+  GetLocal int
+  Negate
+  SetLocal int
+  Pop
+  GetLocal sint
+  Negate
+  SetLocal sint
+  Pop
+  GetLocal bsbyte
+  Negate
+  SetLocal bsbyte
+  Pop
+  GetLocal sbyte
+  Negate
+  SetLocal sbyte
+  Pop
+  GetLocal float
+  Negate
+  SetLocal float
+  Pop
+  GetLocal sfloat
+  Negate
+  SetLocal sfloat
+  Pop
+  GetLocal i
+  Const Int 1
+  Add
+  SetLocal i
+  Pop
+  Loop again
+done:
+  GetLocal int
+  GetLocal sint
+  GetLocal bsbyte
+  GetLocal sbyte
+  GetLocal float
+  GetLocal sfloat
+  BuildTuple 6
   Return
 ";
 
