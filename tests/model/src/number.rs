@@ -105,6 +105,11 @@ impl Number {
         }
     }
 
+    /// The least number of a kind with a sign.
+    pub fn is_least(self) -> bool {
+        matches!(self, Number::Whole(kind, n) if n == kind.least() && n < 0)
+    }
+
     /// The least of a kind has no negative there: 37 (document 02, E5).
     pub fn negate(self) -> Result<Number, u8> {
         match self {
