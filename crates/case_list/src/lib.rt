@@ -1,4 +1,6 @@
 // For the programs that replay a list of cases: from line to line of the list, and words put behind one another into a buffer.
+#![tactic(auto)]
+
 ghost use Rattle.std.specs.Prelude.{◌≡◌, ◌+◌, ◌≤◌, min, length};
 ghost use Rattle.std.proofs.Math.Seq.{paste};
 ghost use Rattle.case_list.specs.Put.{fitting};

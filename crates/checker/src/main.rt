@@ -1,5 +1,7 @@
 // The checker: an image on standard input, one line on standard output. `pass`, `fault NUMBER CHUNK OFFSET` or `refused NUMBER LINE`
 // (docs/OPERATIONS.md). It reads one byte more than an image may have; so an input of any length beyond that is refused with 1.
+#![tactic(auto)]
+
 mod lines; // the line of an answer
 
 ghost use Rattle.std.specs.Prelude.{List, ℕ, ◌≤◌, ◌<◌, length};

@@ -1,4 +1,6 @@
 // Work memory back to zero, to the end of each slice: one function for each type of element.
+#![tactic(auto)]
+
 ghost use Rattle.clearing.specs.Zero.{AllZero};
 
 pub fn clear_u8(a: &mut [u8])

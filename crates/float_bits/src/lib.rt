@@ -1,5 +1,7 @@
 // A float and its bits at both widths, a NaN included, and the rounding of an f64 to the nearest f32.
 // The language's own conversions take no NaN; these take every value.
+#![tactic(auto)]
+
 ghost use Rattle.std.specs.Prelude.{◌≡◌, Bool, cond, ◌+◌, ◌^◌, ◌<◌};
 ghost use Rattle.std.specs.Float.Ieee as Ieee;
 ghost use Rattle.std.specs.Float.{binary32, binary64};

@@ -1,5 +1,7 @@
 // Load: the bytes of an image, judged and decoded into lent work slices (document 01, "Image lines" and "Load").
 // `line_digits` has digits and lines, `image_records` what a line says, `image_store` what a line leaves in the work slices.
+#![tactic(auto)]
+
 pub mod least; // the least lengths of the work slices
 
 ghost use Rattle.std.specs.Prelude.{◌≡◌, ◌≤◌, ◌<◌, length};

@@ -1,4 +1,6 @@
 // `load` under a name that Rust can link: what bench/image times.
+#![tactic(auto)]
+
 ghost use Rattle.std.specs.Prelude.{◌≡◌};
 ghost use Rattle.image.specs.Answer.{slices};
 ghost use Rattle.image_bench.specs.Exported.{code_of, Exported};

@@ -1,4 +1,6 @@
 // Reading for the programs: an image on standard input, into a buffer.
+#![tactic(auto)]
+
 ghost use Rattle.std.specs.Prelude.{◌≡◌, ◌-◌, ◌≤◌, length};
 ghost use Rattle.libc.specs.Io.{Moved};
 ghost use Rattle.image_input.specs.Read.{advanced, Over, input_of};

@@ -1,5 +1,7 @@
 // Records: what the fields of a line say after what was read before it, or the fault 3, 4 or 5.
 // These functions are for `image` alone. What they require, its loop over the lines keeps.
+#![tactic(auto)]
+
 ghost use Rattle.std.specs.Prelude.{◌≡◌, true, ◌&&◌, ◌||◌, List, ℕ, ◌+◌, ◌*◌, ◌≤◌, ◌<◌, length, get_or, drop, ltb, eqb};
 ghost use Rattle.definition.specs.Lines.{judged, constant, number_from, printable, takes_text, text_of, chunk_of, listed, width_of, scalar, allowed, takes_constant, constant_ruled, constant_of, takes_code, code_line, code_of, end_of, record_of};
 ghost use Rattle.image_records.specs.Records.{part_of, seen_of, says};

@@ -1,5 +1,7 @@
 // What a line's record leaves in the work slices, and what comes after it.
 // These functions are for `image` alone. What they require, its loop over the lines keeps.
+#![tactic(auto)]
+
 ghost use Rattle.std.specs.Prelude.{◌≡◌, [], ◌∷◌, ◌++◌, ◌+◌, ◌≤◌, length, take, drop};
 ghost use Rattle.image_store.specs.Stored.{named_by, part_after, after_text, after_chunk, after_constant, after_code, after_end, CanAccept, Accepted, finish_of};
 

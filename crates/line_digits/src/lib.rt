@@ -1,5 +1,7 @@
 // Digits and lines: where a line ends, and the bytes that its digits are.
 // These functions are for `image` alone. What they require, its loop over the lines keeps.
+#![tactic(auto)]
+
 ghost use Rattle.std.specs.Prelude.{◌≡◌, ℕ, ◌*◌, ◌≤◌, ◌<◌, length, get_or, drop};
 ghost use Rattle.definition.specs.Lines.{digit, line_of};
 ghost use Rattle.line_digits.specs.Fields.{read_of, ReadFits, written, over};

@@ -1,5 +1,7 @@
 // The pieces of the lines that the programs print: a word, a number in decimal or padded with zeros to four digits, bytes in hexadecimal.
 // A program puts one piece behind another into a buffer. Numbers and bytes look as in the crate `definition`, specs/Runner.antt.
+#![tactic(auto)]
+
 ghost use Rattle.std.specs.Prelude.{◌≡◌, [], ◌∷◌, ◌++◌, ◌+◌, ◌*◌, ◌/◌, ◌%◌, ◌≤◌, ◌<◌, length, take, drop};
 ghost use Rattle.definition.specs.Runner.{ascii, decimal, padded, hex_digit, hex, words};
 ghost use Rattle.line_output.specs.Puts.{Puts};

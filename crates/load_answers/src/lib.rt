@@ -1,5 +1,7 @@
 // What both operations share around `load`: document 01's number of each refusal, and the memory that `load` was lent back to zero. That no bytes
 // are refused with 9, the number of a work slice that is too short: proofs/NoNine.antt.
+#![tactic(auto)]
+
 ghost use Rattle.std.specs.Prelude.{◌≡◌};
 ghost use Rattle.image.specs.Answer.{number_of, slices};
 ghost use Rattle.load_answers.specs.Zero.{LoadZero};

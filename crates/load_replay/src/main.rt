@@ -4,6 +4,8 @@
 // that line begins with `~`, and the line feed before it is not part of the image. An image may be given as one line `! HEX`, its bytes in
 // upper-case hexadecimal. A line of another form after `=` or `~`, hexadecimal that is none, and what stands after the last answer are
 // counted as malformed. The images that are too long for a list, and the slices that are too short, are made here by rule.
+#![tactic(auto)]
+
 mod list;
 
 ghost use Rattle.std.specs.Prelude.{◌≤◌};

@@ -1,4 +1,6 @@
 // Add, Sub, Mul, Div and Negate on the numbers of the machine.
+#![tactic(auto)]
+
 mod arithmetic;
 mod negation;
 

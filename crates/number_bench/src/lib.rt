@@ -1,6 +1,8 @@
 // Loops over the operations on numbers, for the package bench/numbers to time. An operand is given by its kind's code and its payload, so
 // that one loop serves every kind and the compiler knows none. Each loop answers how many turns it made. In `last` it leaves what they
 // came to: no turn can be left away. Add, Sub and Mul leave their loop at a fault, as a machine does.
+#![tactic(auto)]
+
 ghost use Rattle.std.specs.Prelude.{◌≡◌};
 ghost use Rattle.numbers.specs.Arithmetic.{add_of, sub_of, mul_of};
 ghost use Rattle.number_codes.specs.Payloads.{payload_of};

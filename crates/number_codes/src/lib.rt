@@ -1,4 +1,6 @@
 // Numbers by their codes: a kind's code with a payload, as images and results hold them, and the target number of a Cast.
+#![tactic(auto)]
+
 ghost use Rattle.std.specs.Prelude.{◌≡◌};
 ghost use Rattle.number_codes.specs.Payloads.{payload_of, number_of_payload};
 ghost use Rattle.number_codes.specs.Targets.{cast_target_of};

@@ -1,4 +1,6 @@
 // The order of two numbers, and the four ordered comparisons. Two Ints are compared in the type itself.
+#![tactic(auto)]
+
 ghost use Rattle.std.specs.Prelude.{◌≡◌};
 ghost use Rattle.std.specs.Int.Signed.{lt_z};
 ghost use Rattle.number_operands.specs.Operands.{value_of};

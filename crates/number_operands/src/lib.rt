@@ -1,5 +1,7 @@
 // Numbers taken apart for the operations on them, and put together again. The eight integer kinds share one way, by sign and magnitude, so that
 // each rule is written and proved once for every width.
+#![tactic(auto)]
+
 mod integers;
 mod operands;
 

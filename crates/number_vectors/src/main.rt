@@ -4,6 +4,8 @@
 // A line of the list has 57 bytes, in upper-case hexadecimal: the operation by its instruction number (2 digits), the kind code and the
 // payload of the first operand (2 and 16), those of the second (2 and 16; for Cast 00 and the target number, for Negate 00 and 0), the
 // kind code and the payload of the answer (2 and 16; 07 for a Bool, or the number of a fault and 0), and a line feed.
+#![tactic(auto)]
+
 ghost use Rattle.std.specs.Prelude.{◌≡◌, ◌<◌, ◌≤◌};
 
 use libc::STDOUT_FILENO;

@@ -1,6 +1,8 @@
 // Two numbers of one kind, added, subtracted, multiplied, divided if floats and compared if integers, by their words alone: no number is taken apart,
 // and nothing goes through memory. First the integers of at most 32 bits: a word is turned so that the kind's numbers stand in their order from 0
 // up, the least first. Then UInt, Float and SFloat. Two Ints have their own way (`number_arithmetic`).
+#![tactic(auto)]
+
 ghost use Rattle.std.specs.Prelude.{◌≡◌, ◌+◌, ◌≤◌, ◌<◌, ltb, ◌+ℤ◌, ◌-ℤ◌, ◌*ℤ◌, pos};
 ghost use Rattle.std.specs.Float.Ieee as Ieee;
 ghost use Rattle.std.specs.Float.{binary32, binary64};

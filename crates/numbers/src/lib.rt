@@ -1,5 +1,7 @@
 // The numbers of the machine: ten kinds, what an operation on them answers, and the definitions of the operations (specs/). `number_operands`
 // takes numbers apart; `number_arithmetic`, `number_comparison` and `number_casts` have the operations.
+#![tactic(auto)]
+
 mod answers;
 
 pub use answers::{comparison_fault, fault_number};

@@ -1,4 +1,6 @@
 // Check: loads the image, judges it by the stack check, and clears all work memory.
+#![tactic(auto)]
+
 pub mod least; // the least lengths of its own work slices
 mod numbers_of; // document 01's numbers of the answers
 

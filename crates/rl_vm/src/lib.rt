@@ -1,4 +1,6 @@
 // The operations of the machine. They ask nothing of their caller: each answers for any bytes and any slices, and leaves all work memory zero.
+#![tactic(auto)]
+
 mod export; // `check` for C and Rust
 pub mod least; // the least lengths of the work slices
 mod run_export; // `run` for C and Rust

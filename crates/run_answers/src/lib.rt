@@ -1,5 +1,7 @@
 // What a run answers, and what it leaves in memory (specs/Run.antt): its end coded into the result slice, the numbers of its answers, and its own work
 // memory judged and cleared.
+#![tactic(auto)]
+
 pub mod least; // the least lengths of its own work slices
 mod run_numbers; // document 01's numbers of the answers
 

@@ -3,6 +3,8 @@
 // A case is the image, byte for byte, and then a line `= BUDGET ROOM ANSWER`: the budget, the length of the result slice, and the runner's line,
 // `value COUNT RESULT`, `stop NUMBER COUNT CHUNK OFFSET` or `refused NUMBER LINE`. A line of another form after `=`, and what stands after the last
 // answer, are counted as malformed. The list is made by tests/stored, which says where its answers come from.
+#![tactic(auto)]
+
 ghost use Rattle.std.specs.Prelude.{◌≤◌, length};
 
 use case_list::{after, put};

@@ -1,5 +1,7 @@
 // Arrays of two nested 64 deep: 256 cells whose tree has 2^64 leaves, all the same number or all but one. Each line is answered at once,
 // because equality looks at no pair of cells twice and coding stops where the slice is full.
+#![tactic(auto)]
+
 mod shared_subtrees;
 
 use libc::STDOUT_FILENO;

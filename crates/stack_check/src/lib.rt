@@ -1,4 +1,6 @@
 // The stack check of one chunk and of an image (document 01, "The stack check").
+#![tactic(auto)]
+
 ghost use Rattle.std.specs.Prelude.{◌≡◌, ℕ, ◌+◌, ◌-◌, ◌^◌, ◌<◌, length};
 ghost use Rattle.definition.specs.Decode.{fault};
 ghost use Rattle.chunk.specs.Fault.{static_number};

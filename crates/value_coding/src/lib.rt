@@ -1,4 +1,6 @@
 // The coding of a result: the value that a run ends in, as bytes of a lent slice.
+#![tactic(auto)]
+
 mod coding;
 
 pub use coding::code_value;

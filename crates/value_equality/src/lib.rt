@@ -1,5 +1,7 @@
 // Equality of values and the kind test, over values whose parts lie in lent cells; and the classes of texts and chunks by which equality
 // compares them.
+#![tactic(auto)]
+
 mod classes;
 mod equality;
 mod kind;
