@@ -107,12 +107,12 @@ module _ {X : Type 0} {R : X → Type 0} where
   all_get_d (cons r rs) z zero = r
   all_get_d (cons r rs) z (suc n) = all_get_d rs z n
 
-  all_take : {xs : List X} (n : ℕ) → All R xs → All R (take n xs)
+  all_take : (n : ℕ) {xs : List X} → All R xs → All R (take n xs)
   all_take zero rs = nil
   all_take (suc n) nil = nil
   all_take (suc n) (cons r rs) = cons r (all_take n rs)
 
-  all_drop : {xs : List X} (n : ℕ) → All R xs → All R (drop n xs)
+  all_drop : (n : ℕ) {xs : List X} → All R xs → All R (drop n xs)
   all_drop zero rs = rs
   all_drop (suc n) nil = nil
   all_drop (suc n) (cons r rs) = all_drop n rs

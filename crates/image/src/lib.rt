@@ -19,7 +19,7 @@ pub const IMAGE_MOST: usize = 65536;
 
 // How much of the work slices a loaded image fills: `bytes`, `ends`, `kinds` and `payloads` up to these counts, `table` up to one row
 // of four more than there are chunks.
-#[derive(Drop)]
+#[derive(Clone, Copy)]
 pub struct Counts {
     pub texts: usize,
     pub chunks: usize,
@@ -28,7 +28,7 @@ pub struct Counts {
 }
 
 // A refusal comes with the line, from 1; 0 where no line is at fault.
-#[derive(Drop)]
+#[derive(Clone, Copy)]
 pub enum LoadAnswer {
     Loaded(Counts),
     Refused(Reason, usize),

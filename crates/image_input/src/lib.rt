@@ -6,14 +6,14 @@ ghost use Rattle.libc.specs.Io.{Moved};
 ghost use Rattle.image_input.specs.Read.{advanced, Over, input_of};
 
 // Where reading stands: after so many bytes, the last read having answered this (1 where the buffer is full).
-#[derive(Drop)]
+#[derive(Clone, Copy)]
 pub struct Reading {
     pub at: usize,
     pub last: isize,
 }
 
 // How many bytes were read; or the input could not be read.
-#[derive(Drop)]
+#[derive(Clone, Copy)]
 pub enum Input {
     Bytes(usize),
     Failed,

@@ -7,7 +7,7 @@ ghost use Rattle.definition.specs.Lines.{judged, constant, number_from, printabl
 ghost use Rattle.image_records.specs.Records.{part_of, seen_of, says};
 
 // Why an image is refused; specs/Records.antt, `number_of`, gives document 01's number of each.
-#[derive(Drop)]
+#[derive(Clone, Copy)]
 pub enum Reason {
     TooLong,
     BadLine,
@@ -20,7 +20,7 @@ pub enum Reason {
 }
 
 // Where a line stands: among the texts; in a chunk before its code; in its code; after a code line of fewer than 64 bytes.
-#[derive(Drop)]
+#[derive(Clone, Copy)]
 pub enum Part {
     InTexts,
     InConstants,
@@ -30,7 +30,7 @@ pub enum Part {
 
 // What was read so far. `own` and `code` count the constants and the code bytes of the open chunk; `named` is the highest
 // chunk number that a Function names; `constants`, `bytes` and `rows` say how much the work slices hold.
-#[derive(Drop)]
+#[derive(Clone, Copy)]
 pub struct State {
     pub part: Part,
     pub texts: usize,
@@ -44,7 +44,7 @@ pub struct State {
 }
 
 // What a line says, or its fault.
-#[derive(Drop)]
+#[derive(Clone, Copy)]
 pub enum Record {
     Text,
     Opens { arity: usize, name: usize },

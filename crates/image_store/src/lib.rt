@@ -8,7 +8,7 @@ ghost use Rattle.image_store.specs.Stored.{named_by, part_after, after_text, aft
 use image_records::{Part, Reason, Record, State};
 
 // What a line leads to: the next line, a loaded image, or a refusal.
-#[derive(Drop)]
+#[derive(Clone, Copy)]
 pub enum AfterLine {
     Next { state: State, at: usize },
     Ready(State),

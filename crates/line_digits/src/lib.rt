@@ -7,7 +7,7 @@ ghost use Rattle.definition.specs.Lines.{digit, line_of};
 ghost use Rattle.line_digits.specs.Fields.{read_of, ReadFits, written, over};
 
 // A line: its first byte and how many bytes of fields follow it; or it is at fault with 2.
-#[derive(Drop)]
+#[derive(Clone, Copy)]
 pub enum Read {
     Line { tag: u8, size: usize },
     Faulty,

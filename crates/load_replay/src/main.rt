@@ -18,7 +18,7 @@ use list::{answer_mark, image_end};
 use load_answers::refusal_number;
 use std::num::wrapping_add_u64;
 
-#[derive(Drop)]
+#[derive(Clone, Copy)]
 struct Tally {
     cases: u64,
     agree: u64,

@@ -15,7 +15,7 @@ use number_operands::{
 use numbers::{CastTarget, IntKind, Number, NumberAnswer};
 
 // The whole part of a float's magnitude: itself below 2^64, its low 64 bits below 2^127, or too large for 128 bits with a sign.
-#[derive(Drop)]
+#[derive(Clone, Copy)]
 pub enum WholePart {
     Below64(u64),
     Below127(u64),

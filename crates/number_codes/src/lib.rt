@@ -9,14 +9,14 @@ use numbers::{CastTarget, IntKind, Number};
 use values::MaybeNumber;
 
 // A cast's target by its number, where there is one.
-#[derive(Drop)]
+#[derive(Clone, Copy)]
 pub enum FoundTarget {
     Target(CastTarget),
     NoTarget,
 }
 
 // A number from its kind's code and its payload, where the code is a number's.
-#[derive(Drop)]
+#[derive(Clone, Copy)]
 pub enum FoundNumber {
     Found(Number),
     NoNumber,

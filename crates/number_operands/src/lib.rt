@@ -13,14 +13,14 @@ use numbers::IntKind;
 pub use operands::{kind_code, operand_of, pair_of};
 
 // An integer of at most 65 bits with its sign. Zero may have either sign.
-#[derive(Drop)]
+#[derive(Clone, Copy)]
 pub struct SignMagnitude {
     pub negative: bool,
     pub magnitude: u64,
 }
 
 // A number taken apart: an integer kind with its value, or a float.
-#[derive(Drop)]
+#[derive(Clone, Copy)]
 pub enum Operand {
     Integer(IntKind, SignMagnitude),
     Double(f64),
@@ -28,7 +28,7 @@ pub enum Operand {
 }
 
 // Two numbers of one kind, or not.
-#[derive(Drop)]
+#[derive(Clone, Copy)]
 pub enum OperandPair {
     Integers(IntKind, SignMagnitude, SignMagnitude),
     Doubles(f64, f64),

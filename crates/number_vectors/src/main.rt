@@ -15,13 +15,13 @@ use numbers::{ComparisonAnswer, Number, NumberAnswer};
 // ---- an operation worked out with `numbers`, in the list's coding
 
 // An answer as the list has it: a kind code and a payload, or the number of a fault and 0.
-#[derive(Drop)]
+#[derive(Clone, Copy)]
 struct Coded {
     kind: u64,
     word: u64,
 }
 
-#[derive(Drop)]
+#[derive(Clone, Copy)]
 enum Worked {
     Answer(Coded),
     Malformed,
@@ -147,7 +147,7 @@ fn work(op: u64, first_kind: u64, first: u64, second_kind: u64, second: u64) -> 
 // ---- one line of the list: its fields, and whether the answer in it is the one worked out here
 
 // What a line shows of the operation in this row of the report.
-#[derive(Drop)]
+#[derive(Clone, Copy)]
 enum Verdict {
     Agrees(usize),
     Differs(usize),

@@ -17,14 +17,14 @@ ghost use Rattle.number_words.specs.Words.{narrow_kind, IsOf, turn, signed, answ
 use numbers::Order;
 
 // How many numbers a kind has, and how many of them are negative.
-#[derive(Drop)]
+#[derive(Clone, Copy)]
 pub struct NarrowKind {
     pub numbers: u64,
     pub negatives: u64,
 }
 
 // What an operation leaves: the word of the number, or an overflow.
-#[derive(Drop)]
+#[derive(Clone, Copy)]
 pub enum WordAnswer {
     Word(u64),
     Overflow,

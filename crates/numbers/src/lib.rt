@@ -6,7 +6,7 @@ mod answers;
 
 pub use answers::{comparison_fault, fault_number};
 
-#[derive(Drop)]
+#[derive(Clone, Copy)]
 pub enum Number {
     Int(i64),
     UInt(u64),
@@ -21,7 +21,7 @@ pub enum Number {
 }
 
 // What arithmetic, negation and a cast answer: a number, or a fault.
-#[derive(Drop)]
+#[derive(Clone, Copy)]
 pub enum NumberAnswer {
     Value(Number),
     Overflow,
@@ -31,7 +31,7 @@ pub enum NumberAnswer {
 }
 
 // How two numbers compare. A NaN has no order.
-#[derive(Drop)]
+#[derive(Clone, Copy)]
 pub enum Order {
     Less,
     Equal,
@@ -41,7 +41,7 @@ pub enum Order {
 }
 
 // What an ordered comparison answers.
-#[derive(Drop)]
+#[derive(Clone, Copy)]
 pub enum ComparisonAnswer {
     Holds(bool),
     Unordered,
@@ -49,7 +49,7 @@ pub enum ComparisonAnswer {
 }
 
 // The eight integer kinds, by the Rust type that each holds.
-#[derive(Drop)]
+#[derive(Clone, Copy)]
 pub enum IntKind {
     I64,
     U64,
@@ -62,7 +62,7 @@ pub enum IntKind {
 }
 
 // What a cast makes.
-#[derive(Drop)]
+#[derive(Clone, Copy)]
 pub enum CastTarget {
     ToInteger(IntKind),
     ToFloat,

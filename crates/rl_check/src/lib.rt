@@ -16,7 +16,7 @@ use stack_check::check_image;
 
 // What `check` answers: a refusal with its line, a pass, or the fault with chunk and offset. specs/Check.antt, `answer_of`, gives document 01's
 // number of each.
-#[derive(Drop)]
+#[derive(Clone, Copy)]
 pub enum CheckAnswer {
     Refused(image::Reason, usize),
     Pass,

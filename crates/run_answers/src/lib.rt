@@ -19,7 +19,7 @@ use vm_logic::RunEnd;
 
 // What `run` answers: a refusal with its line; a value, with the count of instructions begun and the length of its coding; or a stop with its
 // place. specs/Run.antt, `answer_of`, gives document 01's number of each.
-#[derive(Drop)]
+#[derive(Clone, Copy)]
 pub enum RunAnswer {
     Refused(image::Reason, usize),
     Value {

@@ -13,7 +13,7 @@ use line_digits::line_end;
 use rl_vm::{RunAnswer, least, refusal_number, run, stop_number};
 use std::num::{wrapping_add_u64, wrapping_add_usize};
 
-#[derive(Drop)]
+#[derive(Clone, Copy)]
 struct Tally {
     cases: u64,
     agree: u64,
@@ -21,7 +21,7 @@ struct Tally {
 }
 
 // A number of the list, and where the word after it begins.
-#[derive(Drop)]
+#[derive(Clone, Copy)]
 struct Word {
     value: usize,
     next: usize,

@@ -11,21 +11,21 @@ use value_coding::Coded;
 use values::VmValue;
 
 // The two values of the next level; or there was no room.
-#[derive(Drop)]
+#[derive(Clone, Copy)]
 pub enum Grown {
     Both(VmValue, VmValue),
     NotBuilt,
 }
 
 // A nested value, and how many cells are taken with it; or there was no room.
-#[derive(Drop)]
+#[derive(Clone, Copy)]
 pub enum Nested {
     At(VmValue, usize),
     NotBuilt,
 }
 
 // Whether two nested values are equal; or there was no room.
-#[derive(Drop)]
+#[derive(Clone, Copy)]
 pub enum Compared {
     Answer(bool),
     NotBuilt,

@@ -14,7 +14,7 @@ use chunk::{BackJump, CodeCursor, Flow, Inspected, Instr, StaticFault};
 use clearing::clear_usize;
 
 // Why a chunk does not pass: what `chunk` can see of one instruction, or that no heights exist.
-#[derive(Drop)]
+#[derive(Clone, Copy)]
 pub enum Reason {
     Instruction,
     Loop,
@@ -23,14 +23,14 @@ pub enum Reason {
 }
 
 // The answer for one chunk, with the offset of the fault.
-#[derive(Drop)]
+#[derive(Clone, Copy)]
 pub enum ChunkAnswer {
     Pass,
     Fault(Reason, usize),
 }
 
 // The answer for an image, with the chunk and the offset of the fault.
-#[derive(Drop)]
+#[derive(Clone, Copy)]
 pub enum CheckAnswer {
     Pass,
     Fault(Reason, usize, usize),
@@ -38,7 +38,7 @@ pub enum CheckAnswer {
 
 // What an instruction's flow asks: `exact` is 1 where the height must be just what is needed, `drops` and `opens` say how many scopes are
 // closed and opened, `ends` is 1 where nothing comes after it.
-#[derive(Drop)]
+#[derive(Clone, Copy)]
 pub struct FlowEffect {
     pub exact: usize,
     pub drops: usize,
@@ -47,7 +47,7 @@ pub struct FlowEffect {
 }
 
 // What an instruction asks and does, and where control goes after it. `first` and `second` are the same but for JumpIfFalse.
-#[derive(Drop)]
+#[derive(Clone, Copy)]
 pub struct Node {
     pub need: usize,
     pub change: isize,
@@ -61,7 +61,7 @@ pub struct Node {
 
 // The state of the search: `todo[..head]` are the offsets that were handled, `todo[head..tail]` those that wait; `low` is the lowest fault so
 // far, or the code's length; `bad` is 1 once no heights can exist. Each offset enters `todo` once, when it is first come to.
-#[derive(Drop)]
+#[derive(Clone, Copy)]
 pub struct Search {
     pub head: usize,
     pub tail: usize,

@@ -6,7 +6,7 @@ mod coding;
 pub use coding::code_value;
 
 // What codes a value before its parts: the kind's code, and a word in so many bytes, high byte first.
-#[derive(Drop)]
+#[derive(Clone, Copy)]
 pub struct Header {
     pub kind: u8,
     pub size: usize,
@@ -14,7 +14,7 @@ pub struct Header {
 }
 
 // What coding answers: how many bytes were written, or that they are more than there is room for.
-#[derive(Drop)]
+#[derive(Clone, Copy)]
 pub enum Coded {
     Bytes(usize),
     TooLong,

@@ -11,7 +11,7 @@ pub use equality::equal;
 pub use kind::value_is_kind;
 use values::Block;
 
-#[derive(Drop)]
+#[derive(Clone, Copy)]
 pub enum MaybeBlock {
     Is(Block),
     Not,
