@@ -133,7 +133,7 @@ def items_of(text):
         # a chunk: this line and the indented or blank lines after it
         chunk = [line]
         i += 1
-        while i < len(lines) and (lines[i][:1] in (" ", "\t") or (not lines[i].strip() and i + 1 < len(lines) and lines[i + 1][:1] in (" ", "\t"))):
+        while i < len(lines) and (lines[i][:1] in (" ", "\t", ")", "]", "}") or (not lines[i].strip() and i + 1 < len(lines) and lines[i + 1][:1] in (" ", "\t"))):
             chunk.append(lines[i])
             i += 1
         body = "\n".join(chunk)
@@ -193,7 +193,11 @@ class Function:
             self.step[place[0]] = place[2]
             cl = names["clauses"][k] if k < len(names["clauses"]) else None
             self.clauses[place[0]] = cl
-        self.ancestor_steps = {}
+        self.arms = {}
+        for k, place in enumerate(names["places"]):
+            arm = names["arms"][k] if k < len(names["arms"]) else None
+            if arm and arm[0]:
+                self.arms[place[0]] = (arm[0], arm[2])
         self.place_names = dict(zip([p[0] for p in names["places"]], names["places_by_name"]))
 
     def walk(self, place, ups):
@@ -215,6 +219,22 @@ class Function:
 
             path = re.sub(r"^\.ensures\.(\d+)", named, path)
         return path
+
+    def in_arm(self, place, step, rest):
+        """What `c.step.rest` is called in the arm of a match, on the way to a goal at `place`."""
+        best = None
+        p = place
+        while p is not None:
+            if p in self.arms:
+                arm, entries = self.arms[p]
+                for new, old, path in entries:
+                    if dashed(old) == dashed(step) and rest[: len(path)] == path and path:
+                        if best is None or len(path) > best[0]:
+                            best = (len(path), arm, new, rest[len(path):])
+            p = self.parent.get(p)
+        if best is None:
+            return None
+        return "." + best[1] + "." + best[2] + "".join("." + r for r in best[3])
 
     def translate(self, body, var, place):
         """The paths from `var`, which stands at `place`, as the flat record has them."""
@@ -244,6 +264,10 @@ class Function:
         def one(m):
             head, path = m[1], m[2]
             if head in steps and path:
+                old = self.step[steps[head]][0]
+                arm = self.in_arm(place, old, path.split(".")[1:])
+                if arm:
+                    return var + arm
                 return head + self.labels(steps[head], path)
             if head not in aliases or (head != var and not path and head not in dropped):
                 return m[0]
@@ -260,13 +284,21 @@ class Function:
             q = p
             step = self.step.get(p)
             if step and dashed(step[0]) == dashed(f):
+                arm = self.in_arm(place, step[0], rest)
+                if arm:
+                    return var + arm
                 f = step[1]
                 tail = "".join("." + r for r in rest)
                 return var + "." + f + self.labels(p, tail)
             f = FIELDS.get(f, f)
             return var + "." + f + "".join("." + r for r in rest)
 
-        return pat.sub(one, body)
+        body = pat.sub(one, body)
+        # lets that nothing cites any more
+        for m in re.findall(r"let (" + W + r") = [^\n]* in[ ]*\n", body):
+            if len(re.findall(r"(?<![^\s(){};,])" + re.escape(m) + r"(?![\w'-])", body)) == 1:
+                body = re.sub(r"[ \t]*let " + re.escape(m) + r" = [^\n]* in[ ]*\n", "", body, count=1)
+        return body
 
 
 def body_of(item):

@@ -32,4 +32,4 @@ pub wide : (u : Width) (z : ℤ) → T (leb (hbits u) 63) → SFits u z → SFit
 wide u z h f = subst (λ (y : ℤ). SFits w64 y) (sym (to_z-of_z f)) (sfits_widen h f)
 
 pub twice : (u : Width) (z : ℤ) → T (leb (hbits u) 63) → SFits u z → to_z w64 (of_z w64 (to_z u (of_z u z))) ≡ z
-twice u z h f = ap (λ (y : ℤ). to_z w64 (of_z w64 y)) (to_z-of_z f) ∙ to_z-of_z (sfits_widen h f)
+twice u z h f = ap (λ (y : ℤ). to_z w64 (of_z w64 y)) (to_z-of_z f) ∙ to_z-of_z {w = w64} (sfits_widen h f)
