@@ -235,6 +235,8 @@ class Function:
                 return ".ensures." + fields[k] if k < len(fields) else m[0]
 
             path = re.sub(r"^\.ensures\.(\d+)", named, path)
+        # older words for a test's two sides, and for what a `&mut` argument holds afterwards
+        path = re.sub(r"^\.left(?![\w-])", ".false", re.sub(r"^\.taken(?![\w-])", ".true", re.sub(r"^\.last(?![\w-])", ".new", path)))
         params = self.n.get("params", {}).get(self.callee.get(place))
         if params:
             # what is known of the argument at that place, by the parameter's name
