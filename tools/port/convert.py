@@ -189,9 +189,11 @@ class Function:
         self.parent = {}
         self.step = {}
         self.clauses = {}
+        self.callee = {}
         for k, place in enumerate(names["places"]):
             self.parent[place[0]] = place[1]
             self.step[place[0]] = place[2]
+            self.callee[place[0]] = place[3]
             cl = names["clauses"][k] if k < len(names["clauses"]) else None
             self.clauses[place[0]] = cl
         self.arms = {}
@@ -233,6 +235,16 @@ class Function:
                 return ".ensures." + fields[k] if k < len(fields) else m[0]
 
             path = re.sub(r"^\.ensures\.(\d+)", named, path)
+        # older words for a test's two sides, and for what a `&mut` argument holds afterwards
+        path = re.sub(r"^\.left(?![\w-])", ".false", re.sub(r"^\.taken(?![\w-])", ".true", re.sub(r"^\.last(?![\w-])", ".new", path)))
+        params = self.n.get("params", {}).get(self.callee.get(place))
+        if params:
+            # what is known of the argument at that place, by the parameter's name
+            def param(m):
+                k = m[2].count(".1")
+                return f".{m[1]}.{params[k]}" if k < len(params) else m[0]
+
+            path = re.sub(r"^\.(auto|new)((?:\.1)*)\.0", param, path)
         return path
 
     def in_arm(self, place, step, rest):
@@ -262,13 +274,13 @@ class Function:
         changed = True
         while changed:
             changed = False
-            for m in re.finditer(r"let (" + W + r") = (" + W + r")((?:\.before)*) in", body):
+            for m in re.finditer(r"let (" + W + r") = (" + W + r")((?:\.before)*)\s+in(?=\s)", body):
                 if m[2] in aliases and m[1] not in aliases:
                     aliases[m[1]] = self.walk(aliases[m[2]], m[3].count(".before"))
                     dropped.append(m[1])
                     changed = True
         for name in dropped:
-            body = re.sub(r"[ \t]*let " + re.escape(name) + r" = " + W + r"(?:\.before)* in ?\n?", "", body)
+            body = re.sub(r"[ \t]*let " + re.escape(name) + r" = " + W + r"(?:\.before)*\s+in(?=\s) ?\n?", "", body)
         # aliases of steps: let X = c.before.loop in
         for m in re.finditer(r"let (" + W + r") = (" + W + r")((?:\.before)*)\.(" + W + r") in", body):
             if m[2] in aliases:
@@ -306,9 +318,9 @@ class Function:
 
         body = pat.sub(one, body)
         # lets that nothing cites any more
-        for m in re.findall(r"let (" + W + r") = [^\n]* in[ ]*\n", body):
+        for m in re.findall(r"let (" + W + r") = " + W + r"(?:\." + W + r")* in[ ]*\n", body):
             if len(re.findall(r"(?<![^\s(){};,])" + re.escape(m) + r"(?![\w'-])", body)) == 1:
-                body = re.sub(r"[ \t]*let " + re.escape(m) + r" = [^\n]* in[ ]*\n", "", body, count=1)
+                body = re.sub(r"[ \t]*let " + re.escape(m) + r" = " + W + r"(?:\." + W + r")* in[ ]*\n", "", body, count=1)
         return body
 
 
