@@ -1,3 +1,5 @@
+-- `number_words::add_f64` meets its contract: the word is that of the two floats' sum. Assumes nothing.
+
 use borrow.Author.Rules.{rules}
 use lib.Ieee as Ieee
 use lib.Ieee.{binary64}

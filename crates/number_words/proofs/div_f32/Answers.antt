@@ -1,3 +1,5 @@
+-- `number_words::div_f32` meets its contract: the word is that of the two floats' quotient. Assumes nothing.
+
 use borrow.Author.Rules.{rules}
 use lib.Ieee as Ieee
 use lib.Ieee.{binary32}
