@@ -288,7 +288,7 @@ class Function:
         for name in dropped:
             body = re.sub(r"[ \t]*let " + re.escape(name) + r" = " + W + r"(?:\.before)*\s+in(?=\s) ?\n?", "", body)
         # aliases of steps: let X = c.before.loop in
-        for m in re.finditer(r"let (" + W + r") = (" + W + r")((?:\.before)*)\.(" + W + r") in", body):
+        for m in re.finditer(r"let (" + W + r") = (" + W + r")((?:\.before)*)\.(" + W + r")\s+in(?=\s)", body):
             if m[2] in aliases:
                 p = self.step_at(place, self.walk(aliases[m[2]], m[3].count(".before")), m[4])
                 if p is not None:
