@@ -17,11 +17,12 @@ KEEP_ALL = "--all" in sys.argv
 ARGV = [a for a in sys.argv[1:] if a != "--all"]
 W = r"[^\s(){}.;,@\"«»`\[\]\\λ]+"
 TRIVIAL = {"search rules", "omega arith", "tt", "refl", "(search rules)", "(omega arith)", "absurd (omega arith)"}
-FIELDS = {"pre": "requires", "well-formed": "well_formed", "type-inv": "type_inv", "yielded-by": "yielded_by"}
+FIELDS = {"pre": "requires", "well-formed": "well_formed", "type-inv": "type_inv", "yielded-by": "yielded_by", "loan-name": "loan_name"}
 
 
 def dashed(name):
-    return name.replace("_", "-")
+    """A step's name, however it was spelled on the way."""
+    return re.sub(r"-lem$", "", name.replace("_", "-").lower())
 
 
 def pieces(text):
@@ -207,6 +208,20 @@ class Function:
             place = self.parent.get(place)
         return place
 
+    def step_at(self, goal, place, field):
+        """The place on the way to `goal` whose step the old proof calls `field`: the one that it counts to, or else the nearest to that."""
+        if place is not None and place in self.step and dashed(self.step[place][0]) == dashed(field):
+            return place
+        way, p = [], goal
+        while p is not None:
+            way.append(p)
+            p = self.parent.get(p)
+        hits = [k for k, q in enumerate(way) if dashed(self.step[q][0]) == dashed(field)]
+        if not hits:
+            return None
+        at = way.index(place) if place in way else len(way)
+        return way[min(hits, key=lambda k: abs(k - at))]
+
     def labels(self, place, path):
         """`.ensures.0` of a call's step by the clause's name."""
         cl = self.clauses.get(place)
@@ -228,7 +243,7 @@ class Function:
             if p in self.arms:
                 arm, entries = self.arms[p]
                 for new, old, path in entries:
-                    if dashed(old) == dashed(step) and rest[: len(path)] == path and path:
+                    if dashed(old) == dashed(step) and rest[: len(path)] == path and (path or rest):
                         if best is None or len(path) > best[0]:
                             best = (len(path), arm, new, rest[len(path):])
             p = self.parent.get(p)
@@ -257,8 +272,8 @@ class Function:
         # aliases of steps: let X = c.before.loop in
         for m in re.finditer(r"let (" + W + r") = (" + W + r")((?:\.before)*)\.(" + W + r") in", body):
             if m[2] in aliases:
-                p = self.walk(aliases[m[2]], m[3].count(".before"))
-                if p in self.step and dashed(self.step[p][0]) == dashed(m[4]):
+                p = self.step_at(place, self.walk(aliases[m[2]], m[3].count(".before")), m[4])
+                if p is not None:
                     steps[m[1]] = p
 
         def one(m):
@@ -268,6 +283,7 @@ class Function:
                 arm = self.in_arm(place, old, path.split(".")[1:])
                 if arm:
                     return var + arm
+                path = "".join("." + FIELDS.get(r, r) for r in path.split(".")[1:])
                 return head + self.labels(steps[head], path)
             if head not in aliases or (head != var and not path and head not in dropped):
                 return m[0]
@@ -276,20 +292,15 @@ class Function:
             while parts and parts[0] == "before":
                 p = self.walk(p, 1)
                 parts = parts[1:]
-            if p is None:
-                return m[0]
             if not parts:
                 return var
-            f, rest = parts[0], parts[1:]
-            q = p
-            step = self.step.get(p)
-            if step and dashed(step[0]) == dashed(f):
-                arm = self.in_arm(place, step[0], rest)
+            f, rest = parts[0], [FIELDS.get(r, r) for r in parts[1:]]
+            q = self.step_at(place, p, f)
+            if q is not None:
+                arm = self.in_arm(place, self.step[q][0], rest)
                 if arm:
                     return var + arm
-                f = step[1]
-                tail = "".join("." + r for r in rest)
-                return var + "." + f + self.labels(p, tail)
+                return var + "." + self.step[q][1] + self.labels(q, "".join("." + r for r in rest))
             f = FIELDS.get(f, f)
             return var + "." + f + "".join("." + r for r in rest)
 

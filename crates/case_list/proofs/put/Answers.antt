@@ -3,8 +3,8 @@
 use native.Mathlib.Omega.{arith}
 use mathlib.Core.Path.{◌≡◌, refl, ◌∙◌, ap}
 use mathlib.Core.List.{List}
-use Prim.Native.Nat.{ℕ, suc, ◌+◌, ◌-◌, ◌≤◌}
-use lib.ListN.{length, get_or, set, length-set}
+use Prim.Native.Nat.{ℕ, suc, ◌+◌}
+use lib.ListN.{get_or, set, length-set}
 use lib.Seq.{paste, paste-zero, paste-suc}
 use Rattle.case_list.specs.Put.{fitting}
 use Rattle.case_list.proofs.put.Goals as goal
@@ -31,7 +31,7 @@ returns-then-out-to c =
       upper_bound = omega (arith, loop.invariant.1, loop.invariant.2);
       end = ap (λ (k : ℕ). args.at + k) n;
       written = loop.invariant.3 ∙ ap (paste args.out.now args.at
-            args.word.now) n;
+          args.word.now) n;
     }
 
 pub bounds-word-i : goal.bounds-word-i
@@ -75,5 +75,5 @@ returns c =
       upper_bound = omega (arith, c.loop-i.invariant.1, c.loop-i.invariant.2);
       end = ap (λ (k : ℕ). args.at + k) n;
       written = c.loop-i.invariant.3 ∙ ap (paste
-            args.out.now args.at args.word.now) n;
+          args.out.now args.at args.word.now) n;
     }

@@ -1,12 +1,9 @@
 -- Each turn copies one byte more: `out` is what it was with the first i bytes of `word` pasted at `at`; on both ways out i is `fitting`.
 
-use native.Mathlib.Omega.{arith}
-use mathlib.Core.Path.{◌≡◌, refl, ◌∙◌, ap}
-use mathlib.Core.List.{List}
-use Prim.Native.Nat.{ℕ, suc, ◌+◌, ◌-◌, ◌≤◌}
-use lib.ListN.{length, get_or, set, length-set}
-use lib.Seq.{paste, paste-zero, paste-suc}
-use Rattle.case_list.specs.Put.{fitting}
+use mathlib.Core.Path.{◌≡◌}
+use Prim.Native.Nat.{◌+◌, ◌-◌, ◌≤◌}
+use lib.ListN.{length}
+use lib.Seq.{paste}
 use Rattle.case_list.proofs.put.Given as goal
 
 abbrev pub invariant-loop-i : goal.invariant-loop-i

@@ -1,9 +1,8 @@
 -- `clear_u16`: the loop of Cleared.antt.
 
-use native.Mathlib.Omega.{arith}
 use Prim.Native.Nat.{◌-◌}
-use lib.ListN.{length, length-set}
-use Rattle.clearing.proofs.Cleared.{ClearedTo, none_cleared, place_fits, one_more, all_cleared}
+use lib.ListN.{length}
+use Rattle.clearing.proofs.Cleared.{ClearedTo}
 use Rattle.clearing.proofs.clear_u16.Given as goal
 
 abbrev pub invariant-loop-i : goal.invariant-loop-i

@@ -1,9 +1,8 @@
 -- `clear_u64`: the loop of Cleared.antt.
 
 use native.Mathlib.Omega.{arith}
-use Prim.Native.Nat.{◌-◌}
-use lib.ListN.{length, length-set}
-use Rattle.clearing.proofs.Cleared.{ClearedTo, none_cleared, place_fits, one_more, all_cleared}
+use lib.ListN.{length-set}
+use Rattle.clearing.proofs.Cleared.{none_cleared, place_fits, one_more, all_cleared}
 use Rattle.clearing.proofs.clear_u64.Goals as goal
 
 pub loop-i-init : goal.loop-i-init

@@ -25,15 +25,15 @@ kept_low m r q l e =
 
 pub returns-then-m-gt9218868437227405312 : goal.returns-then-m-gt9218868437227405312
 returns-then-m-gt9218868437227405312 c = record {
-      nearest = to_nan _ c.requires c.if-m-gt9218868437227405312.true;
-      upper_bound = search rules;
-    }
+  nearest = to_nan _ c.requires c.if-m-gt9218868437227405312.true;
+  upper_bound = search rules;
+}
 
 pub returns-then-e-ge1151 : goal.returns-then-e-ge1151
 returns-then-e-ge1151 c = record {
-      nearest = to_infinity _ c.requires c.if-m-gt9218868437227405312.false c.if-e-ge1151.true;
-      upper_bound = search rules;
-    }
+  nearest = to_infinity _ c.requires c.if-m-gt9218868437227405312.false c.if-e-ge1151.true;
+  upper_bound = search rules;
+}
 
 pub overflow_add-result : goal.overflow_add-result
 overflow_add-result c =

@@ -6,7 +6,6 @@ use native.Mathlib.Numerals.{add-one}
 use Rattle.float_bits.proofs.Round.{shifted, closest_below, closest_above, closest_tie}
 use Rattle.float_bits.proofs.shift_to_nearest.Goals as goal
 
-
 pub overflow_mul-rest : goal.overflow_mul-rest
 overflow_mul-rest c = omega (arith, shifted c.args.n c.args.r c.requires.0 c.requires.1)
 

@@ -31,7 +31,7 @@ pub returns-else-x-ge65 : goal.returns-else-x-ge65
 unfolding digit
 returns-else-x-ge65 c = (
   elim c.if-x-ge48.branch [
-      then-x-ge48+else-x-le57 w ↦ simp (le-leb _ _ w.if-x-ge48.true, lt-leb _ _ w.if-x-le57.false, lt-leb _ _ c.if-x-ge65.false)
+    | then-x-ge48+else-x-le57 w ↦ simp (le-leb _ _ w.if-x-ge48.true, lt-leb _ _ w.if-x-le57.false, lt-leb _ _ c.if-x-ge65.false)
     | else-x-ge48 w ↦ simp (lt-leb 48 _ w.if-x-ge48.false, lt-leb _ _ c.if-x-ge65.false)
   ],
   omega arith,

@@ -4,8 +4,7 @@ use native.Mathlib.Omega.{arith}
 use native.Mathlib.Nat.{eq-or-lt_of_le}
 use mathlib.Core.Path.{◌≡◌}
 use mathlib.Core.Logic.{◌⊎◌, ⊎_elim}
-use Prim.Native.Nat.{ℕ, ◌+◌, ◌-◌, ◌≤◌, ◌<◌}
-use lib.ListN.{length, get_or}
+use Prim.Native.Nat.{ℕ, ◌+◌, ◌≤◌, ◌<◌}
 use Rattle.line_digits.proofs.line_end.Goals as goal
 
 apart : {a b : ℕ} → a ≤ b → b < a → ⊥
@@ -32,7 +31,7 @@ loop-i-preserved c =
 
 pub returns : goal.returns
 returns c = record {
-      within = (omega arith, omega arith);
-      before = c.loop-i.invariant.2;
-      found = λ h. absurd (apart c.loop-i-test.false h);
-    }
+  within = (omega arith, omega arith);
+  before = c.loop-i.invariant.2;
+  found = λ h. absurd (apart c.loop-i-test.false h);
+}

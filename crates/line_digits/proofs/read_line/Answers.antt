@@ -1,27 +1,13 @@
 -- The digits up to the loop's place are decoded into `out`, and the rest of `out` is as it was: so at every way out, on a wrong digit too.
 
 use native.Mathlib.Omega.{arith}
-use mathlib.Core.Path.{◌≡◌, refl, ◌∙◌, sym}
-use mathlib.Core.List.{[], ◌∷◌, ◌++◌}
-use Prim.Native.Nat.{ℕ, ◌+◌, ◌*◌, ◌-◌, ◌≤◌, ◌<◌}
+use mathlib.Core.Path.{refl, ◌∙◌, sym}
+use mathlib.Core.List.{[], ◌∷◌}
+use Prim.Native.Nat.{◌+◌, ◌*◌, ◌<◌}
 use lib.ListN.{length, take, drop, length-set}
 use lib.Seq.{drop-set-lt}
 use Rattle.definition.specs.Lines.{bytes_of}
-use Rattle.line_digits.proofs.Digits.{
-  prepend,
-  pair_left,
-  decode_first,
-  decode_second,
-  decode_more,
-  decode_done,
-  whole,
-  fields_more,
-  line_none,
-  line_some,
-  line_odd,
-  line_long,
-  line_short,
-}
+use Rattle.line_digits.proofs.Digits.{pair_left, decode_first, decode_second, decode_more, decode_done, whole, fields_more, line_none, line_some, line_odd, line_long, line_short}
 use Rattle.line_digits.proofs.Digits.{
   stops_first,
   stops_second,
@@ -40,27 +26,27 @@ use Rattle.line_digits.proofs.read_line.Goals as goal
 
 pub returns-then-size-lt2 : goal.returns-then-size-lt2
 returns-then-size-lt2 c = record {
-      says = line_short _ c.if-size-lt2.true;
-      fits = tt;
-      behind = λ n h. refl;
-      leaves = writes_short _ _ c.if-size-lt2.true;
-    }
+  says = line_short _ c.if-size-lt2.true;
+  fits = tt;
+  behind = λ n h. refl;
+  leaves = writes_short _ _ c.if-size-lt2.true;
+}
 
 pub returns-then-size-gt512 : goal.returns-then-size-gt512
 returns-then-size-gt512 c = record {
-      says = line_long _ c.if-size-gt512.true;
-      fits = tt;
-      behind = λ n h. refl;
-      leaves = writes_long _ _ c.if-size-gt512.true;
-    }
+  says = line_long _ c.if-size-gt512.true;
+  fits = tt;
+  behind = λ n h. refl;
+  leaves = writes_long _ _ c.if-size-gt512.true;
+}
 
 pub returns-then-size-eq1 : goal.returns-then-size-eq1
 returns-then-size-eq1 c = record {
-      says = line_odd _ c.if-size-eq1.true;
-      fits = tt;
-      behind = λ n h. refl;
-      leaves = writes_odd _ _ c.if-size-eq1.true;
-    }
+  says = line_odd _ c.if-size-eq1.true;
+  fits = tt;
+  behind = λ n h. refl;
+  leaves = writes_odd _ _ c.if-size-eq1.true;
+}
 
 pub returns-then-a-eq16 : goal.returns-then-a-eq16
 returns-then-a-eq16 c =
@@ -71,7 +57,7 @@ returns-then-a-eq16 c =
       fits = tt;
       behind = λ n h. refl;
       leaves = writes_none _ _ (stops_first digits [] 0 refl (omega
-              arith) bad);
+          arith) bad);
     }
 
 pub returns-then-b-eq16 : goal.returns-then-b-eq16
@@ -83,7 +69,7 @@ returns-then-b-eq16 c =
       fits = tt;
       behind = λ n h. refl;
       leaves = writes_none _ _ (stops_second digits [] 0 refl (omega
-              arith) bad);
+          arith) bad);
     }
 
 pub loop-p-init : goal.loop-p-init
@@ -126,7 +112,7 @@ returns-then-a-eq16-2 c =
       fits = tt;
       behind = loop.invariant.4;
       leaves = writes_fields args.digits.now loop.out args.out.now tag loop.i if2.false even (omega (arith, pre))
-              (stops_first args.digits.now so_far loop.p loop.invariant.5 two wrong) loop.invariant.6;
+          (stops_first args.digits.now so_far loop.p loop.invariant.5 two wrong) loop.invariant.6;
     }
 
 pub bounds-digits-p-in-loop-p : goal.bounds-digits-p-in-loop-p
@@ -161,7 +147,7 @@ returns-then-b-eq16-2 c =
       fits = tt;
       behind = loop.invariant.4;
       leaves = writes_fields args.digits.now loop.out args.out.now tag loop.i if2.false even (omega (arith, pre))
-              (stops_second args.digits.now so_far loop.p loop.invariant.5 two wrong) loop.invariant.6;
+          (stops_second args.digits.now so_far loop.p loop.invariant.5 two wrong) loop.invariant.6;
     }
 
 pub bounds-out-i : goal.bounds-out-i
@@ -216,5 +202,5 @@ returns c =
       fits = (omega (arith, pre), omega arith);
       behind = loop.invariant.4;
       leaves = writes_fields args.digits.now loop.out args.out.now tag loop.i short if3.false (omega (arith, pre))
-              (decodes_all args.digits.now so_far loop.p loop.invariant.5 (omega arith)) loop.invariant.6;
+          (decodes_all args.digits.now so_far loop.p loop.invariant.5 (omega arith)) loop.invariant.6;
     }

@@ -1,40 +1,11 @@
 -- The digits up to the loop's place are decoded into `out`, and the rest of `out` is as it was: so at every way out, on a wrong digit too.
 
-use native.Mathlib.Omega.{arith}
-use mathlib.Core.Path.{◌≡◌, refl, ◌∙◌, sym}
-use mathlib.Core.List.{[], ◌∷◌, ◌++◌}
-use Prim.Native.Nat.{ℕ, ◌+◌, ◌*◌, ◌-◌, ◌≤◌, ◌<◌}
-use lib.ListN.{length, take, drop, length-set}
-use lib.Seq.{drop-set-lt}
+use mathlib.Core.Path.{◌≡◌}
+use mathlib.Core.List.{◌∷◌, ◌++◌}
+use Prim.Native.Nat.{ℕ, ◌+◌, ◌*◌, ◌-◌, ◌≤◌}
+use lib.ListN.{length, take, drop}
 use Rattle.definition.specs.Lines.{bytes_of}
-use Rattle.line_digits.proofs.Digits.{
-  prepend,
-  pair_left,
-  decode_first,
-  decode_second,
-  decode_more,
-  decode_done,
-  whole,
-  fields_more,
-  line_none,
-  line_some,
-  line_odd,
-  line_long,
-  line_short,
-}
-use Rattle.line_digits.proofs.Digits.{
-  stops_first,
-  stops_second,
-  decodes_more,
-  decodes_all,
-  decoded_next,
-  behind_next,
-  writes_fields,
-  writes_none,
-  writes_short,
-  writes_long,
-  writes_odd,
-}
+use Rattle.line_digits.proofs.Digits.{prepend}
 use Rattle.line_digits.specs.Fields.{decoded}
 use Rattle.line_digits.proofs.read_line.Given as goal
 

@@ -1,6 +1,6 @@
 -- `number_operands::integers::checked` meets its contract: a number in range wraps to itself. Assumes nothing.
 
-use Rattle.std.proofs.Common.{◌≡◌, ℕ, Bool, true, false, ℤ, pos, sym, ap, ◌∙◌, rules}
+use Rattle.std.proofs.Common.{◌≡◌, ℕ, Bool, true, false, ℤ, pos, sym, ap, ◌∙◌}
 use Rattle.numbers.specs.declared.Number.{Number}
 use Rattle.numbers.specs.declared.NumberAnswer.TheVariants.{Value, Overflow}
 use Rattle.numbers.specs.declared.IntKind.{IntKind}

@@ -1,6 +1,6 @@
 -- `number_operands::integers::greatest_of` meets its contract: each arm is one of the definition's. Assumes nothing.
 
-use Rattle.std.proofs.Common.{sym, ap, rules}
+use Rattle.std.proofs.Common.{sym, ap}
 use Rattle.numbers.specs.Kinds.{greatest}
 use Rattle.number_operands.proofs.integers.greatest_of.Goals as goal
 

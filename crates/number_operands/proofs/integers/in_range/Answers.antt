@@ -1,6 +1,6 @@
 -- `number_operands::integers::in_range` meets its contract: by the sign, the bound on that side. Assumes nothing.
 
-use Rattle.std.proofs.Common.{leb, sym, ap, ◌∙◌, rules}
+use Rattle.std.proofs.Common.{leb, sym, ap, ◌∙◌}
 use Rattle.numbers.specs.Kinds.{in_range}
 use Rattle.number_operands.proofs.SignMagnitudes.{value_neg, value_pos}
 use Rattle.numbers.proofs.Ranges.{in_range_neg}

@@ -1,6 +1,6 @@
 -- `number_operands::integers::least_magnitude` meets its contract: each arm is one of the definition's. Assumes nothing.
 
-use Rattle.std.proofs.Common.{sym, ap, rules}
+use Rattle.std.proofs.Common.{sym, ap}
 use Rattle.numbers.specs.Kinds.{least_magnitude}
 use Rattle.number_operands.proofs.integers.least_magnitude.Goals as goal
 

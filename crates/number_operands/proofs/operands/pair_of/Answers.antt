@@ -1,6 +1,6 @@
 -- `number_operands::operands::pair_of` meets its contract: what the two operands stand for, taken together. Assumes nothing.
 
-use Rattle.std.proofs.Common.{◌∙◌, rules}
+use Rattle.std.proofs.Common.{◌∙◌}
 use Rattle.number_operands.proofs.Pairs.{joined, same, other}
 use Rattle.number_operands.proofs.operands.pair_of.Goals as goal
 

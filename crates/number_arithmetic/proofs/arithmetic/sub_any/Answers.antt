@@ -1,0 +1,33 @@
+-- `numbers::arithmetic::sub_any` meets its contract: each arm is one of the definition's. Assumes nothing.
+
+use mathlib.Core.Path.{sym, ap, ◌∙◌}
+use lib.IntN.{◌-ℤ◌}
+use lib.Ieee as Ieee
+use Rattle.numbers.specs.declared.NumberAnswer.{NumberAnswer}
+use Rattle.numbers.specs.Scalars.{ScalarPair}
+use Rattle.number_operands.specs.Operands.{operand_pair}
+use Rattle.numbers.specs.Arithmetic.{arithmetic, checked}
+use Rattle.number_arithmetic.proofs.arithmetic.sub_any.Goals as goal
+
+abbrev rule : ScalarPair → NumberAnswer
+rule = arithmetic (λ k x y. checked k (x -ℤ y)) Ieee.sub
+
+pub returns-in-Integers : goal.returns-in-Integers
+returns-in-Integers c =
+    let pair_of = c.pair_of in
+    c.sub_integers.ensures ∙ ap rule (sym (ap operand_pair c.in-Integers.is) ∙ pair_of.ensures)
+
+pub returns-in-Doubles : goal.returns-in-Doubles
+returns-in-Doubles c =
+    let pair_of = c.pair_of in
+    ap rule (sym (ap operand_pair c.in-Doubles.is) ∙ pair_of.ensures)
+
+pub returns-in-Singles : goal.returns-in-Singles
+returns-in-Singles c =
+    let pair_of = c.pair_of in
+    ap rule (sym (ap operand_pair c.in-Singles.is) ∙ pair_of.ensures)
+
+pub returns-in-Mixed : goal.returns-in-Mixed
+returns-in-Mixed c =
+    let pair_of = c.pair_of in
+    ap rule (sym (ap operand_pair c.in-Mixed.is) ∙ pair_of.ensures)
