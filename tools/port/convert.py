@@ -189,9 +189,11 @@ class Function:
         self.parent = {}
         self.step = {}
         self.clauses = {}
+        self.callee = {}
         for k, place in enumerate(names["places"]):
             self.parent[place[0]] = place[1]
             self.step[place[0]] = place[2]
+            self.callee[place[0]] = place[3]
             cl = names["clauses"][k] if k < len(names["clauses"]) else None
             self.clauses[place[0]] = cl
         self.arms = {}
@@ -233,6 +235,16 @@ class Function:
                 return ".ensures." + fields[k] if k < len(fields) else m[0]
 
             path = re.sub(r"^\.ensures\.(\d+)", named, path)
+        # older words for a test's two sides, and for what a `&mut` argument holds afterwards
+        path = re.sub(r"^\.left(?![\w-])", ".false", re.sub(r"^\.taken(?![\w-])", ".true", re.sub(r"^\.last(?![\w-])", ".new", path)))
+        params = self.n.get("params", {}).get(self.callee.get(place))
+        if params:
+            # what is known of the argument at that place, by the parameter's name
+            def param(m):
+                k = m[2].count(".1")
+                return f".{m[1]}.{params[k]}" if k < len(params) else m[0]
+
+            path = re.sub(r"^\.(auto|new)((?:\.1)*)\.0", param, path)
         return path
 
     def in_arm(self, place, step, rest):
@@ -262,13 +274,13 @@ class Function:
         changed = True
         while changed:
             changed = False
-            for m in re.finditer(r"let (" + W + r") = (" + W + r")((?:\.before)*) in", body):
+            for m in re.finditer(r"let (" + W + r") = (" + W + r")((?:\.before)*)\s+in(?=\s)", body):
                 if m[2] in aliases and m[1] not in aliases:
                     aliases[m[1]] = self.walk(aliases[m[2]], m[3].count(".before"))
                     dropped.append(m[1])
                     changed = True
         for name in dropped:
-            body = re.sub(r"[ \t]*let " + re.escape(name) + r" = " + W + r"(?:\.before)* in ?\n?", "", body)
+            body = re.sub(r"[ \t]*let " + re.escape(name) + r" = " + W + r"(?:\.before)*\s+in(?=\s) ?\n?", "", body)
         # aliases of steps: let X = c.before.loop in
         for m in re.finditer(r"let (" + W + r") = (" + W + r")((?:\.before)*)\.(" + W + r") in", body):
             if m[2] in aliases:
@@ -305,10 +317,17 @@ class Function:
             return var + "." + f + "".join("." + r for r in rest)
 
         body = pat.sub(one, body)
+        # the test of `!x` says of x itself that it is false
+        body = re.sub(r"\(not-(?:true|false) _ ((?:" + W + r")?\.if-not-" + W + r"\.(?:true|false))\)", r"\1", body)
+        body = re.sub(r"not-(?:true|false) _ (" + re.escape(var) + r"\.if-not-" + W + r"\.(?:true|false))", r"\1", body)
+        body = re.sub(r"not-(?:true|false) _ \((" + re.escape(var) + r"\.if-not-" + W + r"\.(?:true|false))\)", r"\1", body)
+        for name in re.findall(r"let (" + W + r") = " + re.escape(var) + r"\.if-not-" + W + r" in", body):
+            body = re.sub(r"\(not-(?:true|false) _ (" + re.escape(name) + r"\.(?:true|false))\)", r"\1", body)
+            body = re.sub(r"not-(?:true|false) _ (" + re.escape(name) + r"\.(?:true|false))", r"\1", body)
         # lets that nothing cites any more
-        for m in re.findall(r"let (" + W + r") = [^\n]* in[ ]*\n", body):
+        for m in re.findall(r"let (" + W + r") = " + W + r"(?:\." + W + r")* in[ ]*\n", body):
             if len(re.findall(r"(?<![^\s(){};,])" + re.escape(m) + r"(?![\w'-])", body)) == 1:
-                body = re.sub(r"[ \t]*let " + re.escape(m) + r" = [^\n]* in[ ]*\n", "", body, count=1)
+                body = re.sub(r"[ \t]*let " + re.escape(m) + r" = " + W + r"(?:\." + W + r")* in[ ]*\n", "", body, count=1)
         return body
 
 
@@ -513,6 +532,52 @@ def convert(path, names, module, crate):
     return f"ok {len(answers)} answers, {dropped} left out" + ("; " + "; ".join(notes) if notes else "")
 
 
+def convert_cycle(path, names, module, crate):
+    """The answers of a function that calls itself. Its measure and its loops' invariants are written by hand."""
+    with open(path, encoding="utf-8") as f:
+        text = f.read()
+    header, imports, items = items_of(text)
+    by_name = {it["name"]: it for it in items if it["name"]}
+    spec = "\n".join(items[-1]["clauses"])
+    spec = spec[spec.index(".spec") + 5:]
+    order = [a.strip("() ").split()[0] for a in args_of(spec) if a.strip("() ")]
+    needs = [n for n in order if n in by_name and re.search(r"lts\.Need-", by_name[n]["sig"])]
+    notes = [] if len(needs) == len(names["needs"]) else [f"{len(needs)} answers for {len(names['needs'])} goals"]
+    if notes:
+        return notes[0]
+    fn = Function(names)
+    answers, dropped = [], 0
+    for k, name in enumerate(needs):
+        old, new = names["needs"][k]
+        place = names["asked_at"][k][0]
+        b = body_of(by_name[name])
+        if b is None:
+            notes.append(f"{name} has several clauses")
+            continue
+        params, body, unfolding = b
+        params = [q for q in params if q != "κs"][:2]
+        if body.strip() in TRIVIAL:
+            dropped += 1
+            continue
+        body = fn.translate(body, params[-1], place)
+        body = re.sub(r"(?<![\w.])pre\.1(?![\w])", "c.requires", body)
+        body = re.sub(r"(?<![\w.])pre\.0(?![\w])", "c.decreases", body)
+        body = re.sub(r"[ \t]*let pre = c\.requires in[ ]*\n", "", body)
+        labels = names["asked"].get(old)
+        if labels and len(labels) > 1:
+            body = record_of(body, labels)
+        sep = "" if body.startswith("\n") else " "
+        answers.append((by_name[name]["comment"], f"pub {new} : goal.{new}", unfolding, f"{new} {' '.join(params)} ={sep}{body}"))
+    keep = [i for i in imports if not re.search(r"\.(Reads|Kinds|Tie|Lts-\w+|Statement)\b|\+\w+\.\{statement\}|borrow\.Fn\.", i)]
+    folder = os.path.dirname(path)
+    parts = ["\n".join(header), "\n".join(keep + [f"use Rattle.{crate}.proofs.{module}.Goals as goal"])]
+    parts += ["\n".join(c + [s] + u + [b]) for c, s, u, b in answers]
+    with open(os.path.join(folder, "Answers.antt"), "w", encoding="utf-8") as f:
+        f.write("\n\n".join(parts) + "\n")
+    os.remove(path)
+    return f"ok {len(answers)} answers, {dropped} left out; the measure and the invariants by hand " + "; ".join(notes)
+
+
 def main():
     data = json.load(open(ARGV[0]))
     crate_folder = ARGV[1].rstrip("/")
@@ -526,6 +591,11 @@ def main():
         module = os.path.relpath(folder, proofs).replace("/", ".")
         if only and module not in only and module.split(".")[-1] not in only:
             continue
+        if "+" in module:
+            function = module.split("+")[-1]
+            if module + "-" + function in names:
+                print(f"{module}: {convert_cycle(os.path.join(folder, 'Proof.antt'), names[module + '-' + function], module, crate)}")
+                continue
         if module not in names:
             print(f"{module}: no names")
             continue

@@ -1,76 +1,29 @@
--- Parts of a buffer, and the answers of reads.
-use mathlib.Core.Path.{◌≡◌, refl, sym, subst, ap, ◌∙◌}
-use mathlib.Core.Bool.{true, false}
-use mathlib.Core.List.{List}
+-- What reads brought behind one another, and what is in a buffer when reading is over.
+use mathlib.Core.Path.{◌≡◌, sym, ap, ◌∙◌}
+use mathlib.Core.List.{List, ◌++◌}
 use Prim.Native.Nat.{ℕ, zero, suc, ◌+◌, ◌-◌, ◌≤◌, ◌<◌}
 use native.Mathlib.Omega.{arith}
 use native.Mathlib.Decide.{dec_lt}
-use native.Mathlib.Nat.{not-suc-le-zero}
-use borrow.Author.Tests.{leb-true, lt-leb}
-use lib.Dec.{T, leb-zero}
+use borrow.Author.Tests.{lt-leb}
 use lib.IntN.{ℤ, pos, negsuc}
-use lib.Signed.{le_z}
-use lib.ListN.{length, take, drop, length-take, length-drop}
-use lib.Seq.{take_all, length-take-le}
-use Rattle.libc.specs.Io.{Moved}
-use Rattle.io.specs.Counts.{clamp_len}
+use lib.ListN.{length, take}
+use lib.Seq.{take-add, take_all, length-take-le}
+use Rattle.std.proofs.Common.{slice_range}
 use Rattle.definition.specs.Lines.{load_image}
 use Rattle.image_input.specs.declared.Input.{Input}
-use Rattle.image_input.specs.declared.Input.TheVariants.{Bytes, Failed}
+use Rattle.image_input.specs.declared.Input.TheVariants.{Bytes}
 use Rattle.image_input.specs.Read.{advanced, Over, input_of, ReadOf}
 
-never : {X : Type 0} → false ≡ true → X
-never e = absurd (subst T (sym e) tt)
-
--- ---- the answer of a read, by its sign
-pub ended : (x z : ℤ) (at : ℕ) → z ≡ x → le_z (pos 0) z ≡ true → Bytes at ≡ input_of at x
-ended x z at e t = go x (subst (λ (y : ℤ). le_z (pos 0) y ≡ true) e t)
+-- what a read brought stands behind what stood before it
+pub taken_more :
+    (at to : ℕ) (x : ℤ) (buf buf' : List ℕ) → to ≡ advanced at x → take at buf' ≡ take at buf → take at buf ++ slice_range buf' at to ≡ take to buf'
+taken_more at to x buf buf' e f =
+    let same : at + (to - at) ≡ to = let h : at ≤ to = on x e in omega arith in
+    ap (λ (l : List ℕ). l ++ slice_range buf' at to) (sym f) ∙ sym (take-add at (to - at) buf') ∙ ap (λ (n : ℕ). take n buf') same
   where
-    go : (x : ℤ) → le_z (pos 0) x ≡ true → Bytes at ≡ input_of at x
-    go (pos n) t = refl
-    go (negsuc n) t = never t
-
-pub failed : (x z : ℤ) (at : ℕ) → z ≡ x → le_z (pos 0) z ≡ false → Failed ≡ input_of at x
-failed x z at e t = go x (subst (λ (y : ℤ). le_z (pos 0) y ≡ false) e t)
-  where
-    go : (x : ℤ) → le_z (pos 0) x ≡ false → Failed ≡ input_of at x
-    go (pos n) t = never (sym t ∙ leb-zero n)
-    go (negsuc n) t = refl
-
--- a read into what stands from `at` on brings as many bytes as it says
-brought : (x : ℤ) (at n room : ℕ) → Moved room x → n ≡ clamp_len x room → at + n ≡ advanced at x
-brought (pos k) at n room m e = omega (arith, m)
-brought (negsuc k) at n room m e = omega arith
-
-rest_long : (at : ℕ) (buf : List ℕ) → length (take (length buf - at) (drop at buf)) ≡ length buf - at
-rest_long at buf = omega (arith, length-take (length buf - at) (drop at buf), length-drop at buf)
-
-pub part_read :
-    (x z : ℤ) (at n : ℕ) (buf buf' : List ℕ) → z ≡ x → Moved (length (take (length buf - at) (drop at buf))) x → length buf' ≡ length buf
-    → n ≡ clamp_len z (length (take (length buf' - at) (drop at buf'))) → (at + n ≡ advanced at z) × Moved (length buf - at) z
-part_read x z at n buf buf' e m l q =
-    let m' : Moved (length buf - at) x = subst (λ (k : ℕ). Moved k x) (rest_long at buf) m in
-    let r : length (take (length buf' - at) (drop at buf')) ≡ length buf - at = rest_long at buf' ∙ ap (λ (k : ℕ). k - at) l in
-    let c : n ≡ clamp_len x (length buf - at) = q ∙ ap (λ (y : ℤ). clamp_len y (length (take (length buf' - at) (drop at buf')))) e ∙ ap (clamp_len x) r in
-    subst (λ (y : ℤ). (at + n ≡ advanced at y) × Moved (length buf - at) y) (sym e) (brought x at n (length buf - at) m' c, m')
-
--- a read that brought nothing ends reading
-pub over_at : (x z : ℤ) (at to size : ℕ) → z ≡ x → le_z z (pos 0) ≡ true → to ≡ advanced at x → at < size → Over size to x
-over_at x z at to size e t q h = go x (subst (λ (y : ℤ). le_z y (pos 0) ≡ true) e t) q
-  where
-    go : (x : ℤ) → le_z x (pos 0) ≡ true → to ≡ advanced at x → Over size to x
-    go (pos zero) t q = omega arith
-    go (pos (suc k)) t q = let b : suc k ≤ 0 = leb-true (suc k) 0 t in absurd (not-suc-le-zero b)
-    go (negsuc k) t q = omega arith
-
--- any other goes further, within the buffer
-pub further : (x z : ℤ) (at to size : ℕ) → z ≡ x → le_z z (pos 0) ≡ false → to ≡ advanced at x → Moved (size - at) x → at < size → (at < to) × (to ≤ size)
-further x z at to size e t q m h = go x (subst (λ (y : ℤ). le_z y (pos 0) ≡ false) e t) q m
-  where
-    go : (x : ℤ) → le_z x (pos 0) ≡ false → to ≡ advanced at x → Moved (size - at) x → (at < to) × (to ≤ size)
-    go (pos zero) t q m = never (sym t ∙ leb-zero 0)
-    go (pos (suc k)) t q m = (omega arith, omega (arith, m))
-    go (negsuc k) t q m = never (sym t)
+    on : (x : ℤ) → to ≡ advanced at x → at ≤ to
+    on (pos k) e = omega arith
+    on (negsuc k) e = omega arith
 
 -- what was read lies in the buffer
 over_within : (size at : ℕ) (x : ℤ) → Over size at x → at ≤ size

@@ -4,7 +4,11 @@
 
 ghost use Rattle.std.specs.Prelude.{◌≡◌, [], ◌∷◌, ◌++◌, ◌+◌, ◌*◌, ◌/◌, ◌%◌, ◌≤◌, ◌<◌, length, take, drop};
 ghost use Rattle.definition.specs.Runner.{ascii, decimal, padded, hex_digit, hex, words};
+ghost use Rattle.std.specs.Bool.{OnTrue};
+ghost use Rattle.std.specs.Io.KnownBytes.{Appends};
 ghost use Rattle.line_output.specs.Puts.{Puts};
+
+use std::io::Write;
 
 // Copies `word` to `out` at `at`.
 fn copy(out: &mut [u8], at: usize, word: &[u8])
@@ -104,13 +108,22 @@ pub fn put_refused(out: &mut [u8], number: usize, line: usize) -> usize
     put(out, d, b"\n")
 }
 
-// Writes the first `size` bytes of `line` to standard output. Where the system does not take them, that is said on standard error, behind the
+// Writes the first `size` bytes of `line` to the output, and answers whether it took them. Where it did not, that is said on `errors`, behind the
 // program's name.
-pub fn write_line(name: &[u8], line: &[u8], size: usize)
+pub fn write_line<W: Write, E: Write>(
+    output: &mut W,
+    errors: &mut E,
+    name: &[u8],
+    line: &[u8],
+    size: usize,
+) -> bool
     requires { size ≤ length line.now }
+    ensures { OnTrue result (Appends (W.contents output.old) (W.contents output.new) (take size line.now)) }
 {
-    if !io::write_all(libc::STDOUT_FILENO, &line[..size]) {
-        io::write_all(libc::STDERR_FILENO, name);
-        io::write_all(libc::STDERR_FILENO, b": the line could not be written\n");
+    if output.write_all(&line[..size]).is_ok() {
+        return true;
     }
+    let _ = errors.write_all(name);
+    let _ = errors.write_all(b": the line could not be written\n");
+    false
 }

@@ -84,7 +84,8 @@ unfolding checked
 tested edge test z f e = record {
   edge_fits = f;
   fits = λ t. record { sfits = ltb-true _ _ (e ∙ t) };
-  exact = λ t. ap (λ (y : ℤ). Value (Int y)) (to_z-of_z {w = w64} (record { sfits = ltb-true _ _ (e ∙ t) })) ∙ sym (ap (λ (b : Bool). pick b (Value (Int z)) Overflow) (in_range_64 z ∙ e ∙ t));
+  exact = λ t. ap (λ (y : ℤ). Value (Int y)) (to_z-of_z {w = w64} (record { sfits = ltb-true _ _ (e ∙ t) }))
+      ∙ sym (ap (λ (b : Bool). pick b (Value (Int z)) Overflow) (in_range_64 z ∙ e ∙ t));
   over = λ t. sym (ap (λ (b : Bool). pick b (Value (Int z)) Overflow) (in_range_64 z ∙ e ∙ t));
 }
 
@@ -105,7 +106,8 @@ up_64 n x edge h f e =
 down_64 : (n : ℕ) (x edge : ℤ) → n ≤ 2 ^ 63 → SFits w64 x → edge ≡ sub_ℕ n (2 ^ 63) → Tested edge (le_z (to_z w64 (of_z w64 edge)) x) (x +ℤ neg_ℤ (pos n)) (x +ℤ neg_ℤ (pos n))
 down_64 n x edge h f e =
     let s : SFits w64 edge = subst (λ (z : ℤ). SFits w64 z) (sym e) (record { sfits = edge_mag n (2 ^ 63) h (lit≤ tt) (inr refl) }) in
-    tested edge (le_z (to_z w64 (of_z w64 edge)) x) (x +ℤ neg_ℤ (pos n)) s (down (2 ^ 63) n x h f.sfits ∙ sym (ap (λ (z : ℤ). le_z z x) (to_z-of_z {w = w64} s ∙ e)))
+    tested edge (le_z (to_z w64 (of_z w64 edge)) x) (x +ℤ neg_ℤ (pos n)) s
+    (down (2 ^ 63) n x h f.sfits ∙ sym (ap (λ (z : ℤ). le_z z x) (to_z-of_z {w = w64} s ∙ e)))
 
 -- ---- as the code has it: zx and zy are what the machine reads back of x and y
 moved : {x y zx zy : ℤ} (F : ℤ → ℤ → Type 0) → zx ≡ x → zy ≡ y → F x y → F zx zy

@@ -1,6 +1,5 @@
 -- The turns of a loop, and the number that it starts from. Assumes nothing.
-use Rattle.std.proofs.Common.{◌≡◌, ℕ, ◌+◌, ◌%◌, ◌^◌, ◌<◌, [], ◌∷◌, pos, sym, refl, ap, ◌∙◌, subst, ⊎_elim, add-one, arith}
-use types.Run.{OneOf}
+use Rattle.std.proofs.Common.{◌≡◌, ℕ, ◌+◌, ◌%◌, ◌^◌, ◌<◌, pos, sym, refl, ap, ◌∙◌, subst, add-one}
 use Rattle.numbers.specs.declared.Number.{Number}
 use Rattle.numbers.specs.declared.Number.TheVariants.{Int}
 use Rattle.numbers.specs.declared.NumberAnswer.{NumberAnswer}
@@ -43,10 +42,6 @@ all_turns f n i x y x' y' z {left} p q k t l =
           ℕ). turns (λ w. f w y) m x ≡ Value z) k t));
       payload = l;
     }
-
--- the four other answers' tags are not the value's
-pub other_tag : (t : ℕ) → OneOf (1 ∷ 2 ∷ 3 ∷ 4 ∷ []) t → t ≡ 0 → ⊥
-other_tag t k z = ⊎_elim (λ e. omega arith) (⊎_elim (λ e. omega arith) (⊎_elim (λ e. omega arith) (λ e. omega arith))) k
 
 -- a turn answered a fault
 pub faulted : (f : Number → Number → NumberAnswer) (n i : ℕ) (x y x' y' z : Number) {r : NumberAnswer} {lent : ℕ} → x ≡ x' → y ≡ y' → i < n → turns (λ

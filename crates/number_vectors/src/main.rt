@@ -7,10 +7,12 @@
 #![tactic(auto)]
 
 ghost use Rattle.std.specs.Prelude.{◌≡◌, ◌<◌, ◌≤◌};
+ghost use Rattle.std.specs.Io.{ReadsAtMost};
 
-use libc::STDOUT_FILENO;
 use number_codes::{FoundNumber, FoundTarget};
 use numbers::{ComparisonAnswer, Number, NumberAnswer};
+use std::io;
+use std::io::Read;
 
 // ---- an operation worked out with `numbers`, in the list's coding
 
@@ -243,17 +245,13 @@ fn judge(line: &[u8]) -> Verdict {
 
 // ---- what the program prints: a line for each operation, and the sums
 
-fn counts(name: &[u8], agree: u64, differ: u64) {
-    io::write_all(STDOUT_FILENO, name);
-    io::print_decimal(STDOUT_FILENO, agree);
-    io::write_all(STDOUT_FILENO, b" agree, ");
-    io::print_decimal(STDOUT_FILENO, differ);
-    io::write_all(STDOUT_FILENO, b" differ");
+fn counts(rt: &impl Print, name: &str, agree: u64, differ: u64) -> io::Result<()> {
+    print!(rt; "{name} {agree} agree, {differ} differ")
 }
 
-fn row(name: &[u8], agree: u64, differ: u64) {
-    counts(name, agree, differ);
-    io::write_all(STDOUT_FILENO, b"\n");
+fn row(rt: &impl Print, name: &str, agree: u64, differ: u64) -> io::Result<()> {
+    counts(rt, name, agree, differ)?;
+    println!(rt)
 }
 
 fn sum(a: &[u64; 10]) -> u64 {
@@ -266,25 +264,28 @@ fn sum(a: &[u64; 10]) -> u64 {
     total
 }
 
-fn report(agree: &[u64; 10], differ: &[u64; 10], malformed: u64) {
-    row(b"Add ", agree[0], differ[0]);
-    row(b"Sub ", agree[1], differ[1]);
-    row(b"Mul ", agree[2], differ[2]);
-    row(b"Div ", agree[3], differ[3]);
-    row(b"Negate ", agree[4], differ[4]);
-    row(b"Less ", agree[5], differ[5]);
-    row(b"LessEq ", agree[6], differ[6]);
-    row(b"Greater ", agree[7], differ[7]);
-    row(b"GreaterEq ", agree[8], differ[8]);
-    row(b"Cast ", agree[9], differ[9]);
-    counts(b"all ", sum(agree), sum(differ));
-    io::write_all(STDOUT_FILENO, b", ");
-    io::print_decimal(STDOUT_FILENO, malformed);
-    io::write_all(STDOUT_FILENO, b" malformed\n");
+fn report(
+    rt: &impl Print,
+    agree: &[u64; 10],
+    differ: &[u64; 10],
+    malformed: u64,
+) -> io::Result<()> {
+    row(rt, "Add", agree[0], differ[0])?;
+    row(rt, "Sub", agree[1], differ[1])?;
+    row(rt, "Mul", agree[2], differ[2])?;
+    row(rt, "Div", agree[3], differ[3])?;
+    row(rt, "Negate", agree[4], differ[4])?;
+    row(rt, "Less", agree[5], differ[5])?;
+    row(rt, "LessEq", agree[6], differ[6])?;
+    row(rt, "Greater", agree[7], differ[7])?;
+    row(rt, "GreaterEq", agree[8], differ[8])?;
+    row(rt, "Cast", agree[9], differ[9])?;
+    counts(rt, "all", sum(agree), sum(differ))?;
+    println!(rt; ", {malformed} malformed")
 }
 
-fn report_stopped() {
-    io::write_all(STDOUT_FILENO, b"stopped before the end of the list\n");
+fn report_stopped(rt: &impl Print) -> io::Result<()> {
+    println!(rt; "stopped before the end of the list")
 }
 
 // ---- the run
@@ -310,14 +311,31 @@ fn count(verdict: Verdict, agree: &mut [u64; 10], differ: &mut [u64; 10]) -> u64
     }
 }
 
-fn main() {
+// Reads until `buf` is full or the input ends, and answers how many bytes came.
+fn read_full<R: Read>(input: &mut R, buf: &mut [u8]) -> io::Result<usize>
+    ensures { ReadsAtMost result buf.new }
+{
+    let mut done = 0;
+    while done < buf.len() {
+        let n = input.read(&mut buf[done..])?;
+        if n == 0 {
+            break;
+        }
+        done += n;
+    }
+    Ok(done)
+}
+
+// A read or a write that fails ends the run with its error.
+fn main(rt: HostRuntime) -> io::Result<()> {
+    let mut input = rt.stdin();
     let mut agree = [0u64; 10];
     let mut differ = [0u64; 10];
     let mut malformed: u64 = 0;
     let mut line = [0u8; 57];
     let mut left: u64 = MOST;
     while 0 < left {
-        let n = io::read_full(0, &mut line);
+        let n = read_full(&mut input, &mut line)?;
         if n == 0 {
             break;
         }
@@ -325,8 +343,9 @@ fn main() {
         malformed = std::num::wrapping_add_u64(malformed, bad);
         left -= 1;
     }
-    report(&agree, &differ, malformed);
+    report(&rt, &agree, &differ, malformed)?;
     if left == 0 {
-        report_stopped();
+        report_stopped(&rt)?;
     }
+    Ok(())
 }

@@ -88,7 +88,7 @@ wrong_alike : {c e : Chunk} {n p : ℕ} → Alike c e → answer.Wrong c n p →
 wrong_alike A (answer.Wrong.faulty n p r b f z l) =
     answer.Wrong.faulty n p (reach_alike A r) (rw (← length_alike A) b) (sym (fault_alike A p) ∙ f) z
     (λ q m s. sym (fault_alike A q) ∙ l q m (reach_alike (alike_back A) s))
-wrong_alike A (answer.Wrong.noHeights f g) = answer.Wrong.noHeights (clean_alike A f) (λ h d G. g h d (heights_alike (alike_back A) G))
+wrong_alike A (answer.Wrong.no_heights f g) = answer.Wrong.no_heights (clean_alike A f) (λ h d G. g h d (heights_alike (alike_back A) G))
 
 pub answer_alike : {c e : Chunk} → Alike c e → (r : ChunkAnswer) → ChunkIs c r → ChunkIs e r
 answer_alike A Pass P = passes_alike A P

@@ -242,4 +242,4 @@ module _ (c : Chunk) where
       positive n h = omega arith
 
   pub none_to : NoFault c → ((H D : ℕ → ℕ) → Assigned c H D → ⊥) → answer.Wrong c 13 0
-  none_to f g = answer.Wrong.noHeights (no_fault_to f) (λ h d G. g h d (heights_from G))
+  none_to f g = answer.Wrong.no_heights (no_fault_to f) (λ h d G. g h d (heights_from G))

@@ -1,0 +1,15 @@
+-- What a turn took of the input stands behind what the earlier ones took.
+use Rattle.std.proofs.Common.{rules, subst}
+use Rattle.std.specs.Io.KnownBytes.{Consumes}
+use Rattle.std.proofs.KnownBytes.{Consumes-trans}
+use Rattle.image_input.proofs.Parts.{taken_more}
+use Rattle.image_input.proofs.read_all.Goals as goal
+
+pub loop-at-preserved : goal.loop-at-preserved
+loop-at-preserved g c =
+    record {
+      within = search rules;
+      long = search rules;
+      taken = subst (Consumes _ _) (taken_more c.loop-at.at _ c.read_part-r.result.last c.loop-at.buf c.read_part-r.new.buf c.read_part-r.ensures.answer.0 c.read_part-r.ensures.front)
+          (Consumes-trans _ _ _ _ _ c.loop-at.invariant.taken c.read_part-r.ensures.taken);
+    }

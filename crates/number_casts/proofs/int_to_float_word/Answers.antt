@@ -1,0 +1,13 @@
+-- The word of the f64 nearest to the Int is read back as that f64. Assumes nothing.
+
+use borrow.Author.Rules.{rules}
+use Rattle.std.proofs.Common.{ap, ◌∙◌, to_z-of_z, w64, rules}
+use lib.Ieee.{binary64, of_bits, of_int}
+use lib.Ieee.Bits.{of_bits-to_bits}
+use Rattle.number_casts.proofs.int_to_float_word.Goals as goal
+
+pub returns : goal.returns
+returns c =
+    let i64_of_word = c.i64_of_word in
+    ap (of_bits binary64) c.word_of_f64.ensures ∙ of_bits-to_bits binary64 c.nearest_to_int.result (search rules) ∙ c.nearest_to_int.ensures
+    ∙ ap (of_int binary64) (to_z-of_z {w = w64} {z = i64_of_word.result} (search rules) ∙ i64_of_word.ensures)

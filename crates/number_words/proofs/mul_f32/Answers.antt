@@ -1,0 +1,10 @@
+-- `number_words::mul_f32` meets its contract: the word is that of the two floats' product. Assumes nothing.
+
+use borrow.Author.Rules.{rules}
+use lib.Ieee as Ieee
+use lib.Ieee.{binary32}
+use Rattle.number_words.proofs.Floats.{float_word}
+use Rattle.number_words.proofs.mul_f32.Goals as goal
+
+pub returns : goal.returns
+returns c = float_word binary32 Ieee.mul c.word_of_f32.ensures c.f32_of_word.ensures c.f32_of_word-2.ensures (search rules)

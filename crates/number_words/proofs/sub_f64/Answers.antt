@@ -1,0 +1,10 @@
+-- `number_words::sub_f64` meets its contract: the word is that of the two floats' difference. Assumes nothing.
+
+use borrow.Author.Rules.{rules}
+use lib.Ieee as Ieee
+use lib.Ieee.{binary64}
+use Rattle.number_words.proofs.Floats.{float_word}
+use Rattle.number_words.proofs.sub_f64.Goals as goal
+
+pub returns : goal.returns
+returns c = float_word binary64 Ieee.sub c.word_of_f64.ensures c.f64_of_word.ensures c.f64_of_word-2.ensures (search rules)

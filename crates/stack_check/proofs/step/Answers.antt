@@ -1,0 +1,62 @@
+-- Three ways: a fault below `low`, a fault that is not, and an instruction that `handle` takes. `Progress` holds after each, one offset on.
+
+use native.Mathlib.Omega.{arith}
+use mathlib.Core.Path.{refl}
+use Rattle.stack_check.proofs.Nodes.{kinds_back}
+use Rattle.stack_check.proofs.Found.{is_faulty, is_clean, is_here}
+use Rattle.stack_check.specs.Node.{chunk_of}
+use Rattle.stack_check.proofs.Theory.{step_lower, step_higher, step_handled}
+use Rattle.stack_check.proofs.step.Goals as goal
+
+pub returns-then-at-low : goal.returns-then-at-low
+returns-then-at-low c =
+    let inspect = c.inspect in
+    let args = c.args in
+    let pre = c.requires in (
+      step_lower pre.0 pre.1 _ refl (is_faulty (inspect.ensures (chunk_of args.code.now args.kinds.now) refl (kinds_back args.kinds.now))
+          c.in-Fault.is) c.if-at-low.true,
+      refl,
+    )
+
+pub returns-else-at-low : goal.returns-else-at-low
+returns-else-at-low c =
+    let inspect = c.inspect in
+    let args = c.args in
+    let pre = c.requires in (
+      step_higher pre.0 pre.1 _ refl (is_faulty (inspect.ensures (chunk_of args.code.now args.kinds.now) refl (kinds_back args.kinds.now))
+          c.in-Fault.is) c.if-at-low.false,
+      refl,
+    )
+
+pub handle-r-requires : goal.handle-r-requires
+handle-r-requires c =
+    let inspect = c.inspect in
+    let args = c.args in
+    let pre = c.requires in (
+      pre.0,
+      pre.0.listed _ pre.1,
+      is_clean (inspect.ensures (chunk_of args.code.now args.kinds.now) refl (kinds_back args.kinds.now))
+          c.in-Sound.is,
+      is_here (inspect.ensures (chunk_of args.code.now args.kinds.now) refl (kinds_back args.kinds.now)) c.in-Sound.is,
+    )
+
+pub overflow_add-result-in-Sound : goal.overflow_add-result-in-Sound
+overflow_add-result-in-Sound c =
+    let good = c.well_formed
+    in
+    let pre = c.requires
+    in
+    omega (arith, pre.0.room, pre.0.order, pre.1, good)
+
+pub returns : goal.returns
+returns c =
+    let handle = c.handle-r in
+    let inspect = c.inspect in
+    let args = c.args
+    in
+    let pre = c.requires
+    in (
+      step_handled pre.1 (is_clean (inspect.ensures (chunk_of args.code.now args.kinds.now) refl (kinds_back args.kinds.now)) c.in-Sound.is)
+          handle.ensures,
+      refl,
+    )
