@@ -17,6 +17,8 @@ KEEP_ALL = "--all" in sys.argv
 ARGV = [a for a in sys.argv[1:] if a != "--all"]
 W = r"[^\s(){}.;,@\"«»`\[\]\\λ]+"
 TRIVIAL = {"search rules", "omega arith", "tt", "refl", "(search rules)", "(omega arith)", "absurd (omega arith)"}
+# a parameter that port.py gave another name, since `result` is a clause's word
+RENAMED = {"result": "res"}
 FIELDS = {"pre": "requires", "well-formed": "well_formed", "type-inv": "type_inv", "yielded-by": "yielded_by", "loan-name": "loan_name"}
 
 
@@ -230,13 +232,20 @@ class Function:
         if cl and cl.get("fields"):
             fields = cl["fields"]
 
-            def named(m):
-                k = int(m[1])
-                return ".ensures." + fields[k] if k < len(fields) else m[0]
-
-            path = re.sub(r"^\.ensures\.(\d+)", named, path)
+            # clauses were joined in pairs: .1.0 is the second of three, .1.1 the third
+            parts = path.split(".")[1:]
+            if parts and parts[0] == "ensures" and len(fields) > 1:
+                k, rest = 0, parts[1:]
+                while k < len(fields) - 1 and rest and rest[0] == "1":
+                    k, rest = k + 1, rest[1:]
+                if k < len(fields) - 1 and rest and rest[0] == "0":
+                    rest = rest[1:]
+                    path = ".ensures." + fields[k] + "".join("." + r for r in rest)
+                elif k == len(fields) - 1:
+                    path = ".ensures." + fields[k] + "".join("." + r for r in rest)
         # older words for a test's two sides, and for what a `&mut` argument holds afterwards
         path = re.sub(r"^\.left(?![\w-])", ".false", re.sub(r"^\.taken(?![\w-])", ".true", re.sub(r"^\.last(?![\w-])", ".new", path)))
+        path = re.sub(r"^\.kept(?![\w-])", ".auto", path)
         params = self.n.get("params", {}).get(self.callee.get(place))
         if params:
             # what is known of the argument at that place, by the parameter's name
@@ -282,7 +291,7 @@ class Function:
         for name in dropped:
             body = re.sub(r"[ \t]*let " + re.escape(name) + r" = " + W + r"(?:\.before)*\s+in(?=\s) ?\n?", "", body)
         # aliases of steps: let X = c.before.loop in
-        for m in re.finditer(r"let (" + W + r") = (" + W + r")((?:\.before)*)\.(" + W + r") in", body):
+        for m in re.finditer(r"let (" + W + r") = (" + W + r")((?:\.before)*)\.(" + W + r")\s+in(?=\s)", body):
             if m[2] in aliases:
                 p = self.step_at(place, self.walk(aliases[m[2]], m[3].count(".before")), m[4])
                 if p is not None:
@@ -314,6 +323,8 @@ class Function:
                     return var + arm
                 return var + "." + self.step[q][1] + self.labels(q, "".join("." + r for r in rest))
             f = FIELDS.get(f, f)
+            if f == "args" and rest and rest[0] in RENAMED:
+                rest = [RENAMED[rest[0]]] + rest[1:]
             return var + "." + f + "".join("." + r for r in rest)
 
         body = pat.sub(one, body)
@@ -324,6 +335,9 @@ class Function:
         for name in re.findall(r"let (" + W + r") = " + re.escape(var) + r"\.if-not-" + W + r" in", body):
             body = re.sub(r"\(not-(?:true|false) _ (" + re.escape(name) + r"\.(?:true|false))\)", r"\1", body)
             body = re.sub(r"not-(?:true|false) _ (" + re.escape(name) + r"\.(?:true|false))", r"\1", body)
+        for name in re.findall(r"let (" + W + r") = " + re.escape(var) + r"\.args in", body):
+            for a, b in RENAMED.items():
+                body = re.sub(r"(?<![\w.])" + re.escape(name) + r"\." + a + r"(?![\w-])", name + "." + b, body)
         # lets that nothing cites any more
         for m in re.findall(r"let (" + W + r") = " + W + r"(?:\." + W + r")* in[ ]*\n", body):
             if len(re.findall(r"(?<![^\s(){};,])" + re.escape(m) + r"(?![\w'-])", body)) == 1:

@@ -2,7 +2,6 @@
 
 use crate::edit::Edit;
 use crate::source::Files;
-use std::collections::BTreeSet;
 
 pub struct Placed {
     pub edit: Edit,
@@ -33,12 +32,6 @@ impl Placed {
         })
     }
 
-    /// The function in which it lies and which is proved by a walk by hand, if there is one.
-    pub fn walked<'a>(&'a self, walked: &BTreeSet<String>) -> Option<&'a String> {
-        let named = self.functions.iter().flatten();
-        named.into_iter().find(|f| walked.contains(*f))
-    }
-
     fn meets(&self, other: &Placed) -> bool {
         let of = |f: &Option<String>| f.is_none() || other.functions.contains(f);
         other.functions.contains(&None) || self.functions.iter().any(of)
@@ -53,16 +46,10 @@ pub struct Batch {
 
 impl Batch {
     pub fn alone(placed: Placed, files: &Files) -> Batch {
-        let files = Batch::files_with(&placed, files);
-        let edits = vec![placed];
-        Batch { files, edits }
-    }
-
-    /// The files with this edit made.
-    pub fn files_with(placed: &Placed, files: &Files) -> Files {
         let mut files = files.clone();
         placed.edit.make(&mut files).expect("it was made before");
-        files
+        let edits = vec![placed];
+        Batch { files, edits }
     }
 
     /// Takes one edit more, if it meets none that is there.
@@ -114,9 +101,6 @@ mod tests {
         let control = edit.control(&files).unwrap();
         assert!(control.is_control && !edit.is_control);
         assert_eq!(control.functions, edit.functions);
-        let walked = BTreeSet::from(["f".to_string()]);
-        assert_eq!(control.walked(&walked).unwrap(), "f");
-        assert_eq!(placed("g", "3", "", &files).walked(&walked), None);
         let all = batches(&files, vec![edit, placed("g", "3", "", &files), control]);
         let sizes: Vec<usize> = all.iter().map(|b| b.edits.len()).collect();
         assert_eq!(sizes, [2, 1]);

@@ -1,19 +1,22 @@
 //! A copy of the repository in a temporary folder, in which a crate is edited and checked.
 
-use crate::edit::Edit;
+use crate::names::Names;
 use crate::prover::Log;
 use crate::source::Files;
-use std::collections::BTreeSet;
 use std::fs;
 use std::path::{Path, PathBuf};
 use std::process::Command;
-use std::sync::atomic::{AtomicUsize, Ordering};
 
 /// The folders of a crate that have edits.
 pub const PARTS: [&str; 2] = ["must-fail", "wrong"];
 
+/// The folders of a crate that a check reads.
+const READ: [&str; 3] = ["src", "specs", "proofs"];
+
+/// What a check leaves for the next one.
+const KEPT: &str = "out/incremental";
+
 pub struct Copy {
-    top: PathBuf,
     root: PathBuf,
 }
 
@@ -29,148 +32,152 @@ pub fn names(folder: &Path) -> Vec<String> {
     all
 }
 
-/// Whether `rt` has noted that it proved this crate; a program is noted as built until it has run.
-pub fn is_proved(top: &Path, name: &str) -> bool {
-    let note = top.join("target/log").join(format!("{name}.res"));
-    fs::read_to_string(note).is_ok_and(|word| matches!(word.trim(), "proved" | "built"))
-}
-
-/// The files in these parts of a crate's folder.
+/// The files in these parts of a crate's folder, and below them.
 pub fn files(folder: &Path, parts: &[&str]) -> Files {
-    let mut files = Files::new();
-    for part in parts {
-        for file in names(&folder.join(part)) {
-            let path = format!("{part}/{file}");
-            files.insert(
-                path.clone(),
-                fs::read_to_string(folder.join(&path)).expect("a file"),
-            );
+    let mut all = Files::new();
+    parts.iter().for_each(|part| below(folder, part, &mut all));
+    all
+}
+
+fn below(folder: &Path, path: &str, all: &mut Files) {
+    for name in names(&folder.join(path)) {
+        let path = format!("{path}/{name}");
+        if folder.join(&path).is_dir() {
+            below(folder, &path, all);
+        } else {
+            let text = fs::read_to_string(folder.join(&path)).expect("a file");
+            all.insert(path, text);
         }
     }
-    files
 }
 
-/// A proof that answers the generated needs binds their file, `Tie`; a walk by hand has none.
-fn is_walk(proof: &str) -> bool {
-    !proof.contains(".Tie")
+/// The files of a crate that a check reads.
+pub fn crate_files(top: &Path, name: &str) -> Files {
+    files(&top.join("crates").join(name), &READ)
 }
 
-/// A folder that holds a proof is named for its function, with a `+` before the name of a recursive one.
-fn walked_below(folder: &Path, found: &mut BTreeSet<String>) {
-    for name in names(folder) {
-        let inner = folder.join(&name);
-        if let Ok(proof) = fs::read_to_string(inner.join("Proof.antt"))
-            && is_walk(&proof)
+/// The edits of a crate, by name, in wrong/ and in must-fail/.
+pub fn edits(top: &Path, name: &str) -> Vec<(String, String)> {
+    let mut all = Vec::new();
+    for part in PARTS {
+        let folder = top.join("crates").join(name).join(part);
+        let text = |file: &str| fs::read_to_string(folder.join(file)).expect("an edit");
+        let edit = |f: &String| Some((f.strip_suffix(".edit")?.to_string(), text(f)));
+        all.extend(names(&folder).iter().filter_map(edit));
+    }
+    all
+}
+
+/// What a check kept, in another place: a check replaces the files of what it has checked, and changes none, so they may be links.
+fn linked(from: &Path, to: &Path) -> std::io::Result<()> {
+    fs::create_dir_all(to)?;
+    for entry in fs::read_dir(from)? {
+        let entry = entry?;
+        let (one, other) = (entry.path(), to.join(entry.file_name()));
+        if entry.file_type()?.is_dir() {
+            linked(&one, &other)?;
+        } else if one.extension().is_none_or(|e| e != "oantt")
+            || fs::hard_link(&one, &other).is_err()
         {
-            found.insert(name.trim_start_matches('+').to_string());
+            fs::copy(&one, &other)?;
         }
-        walked_below(&inner, found);
     }
-}
-
-fn copied(from: &Path, to: &Path) {
-    let done = Command::new("cp").arg("-R").arg(from).arg(to).status();
-    assert!(
-        done.is_ok_and(|s| s.success()),
-        "{} cannot be copied",
-        from.display()
-    );
+    Ok(())
 }
 
 impl Copy {
-    /// The sources are copied; the proved libraries are only read.
-    pub fn new(top: &Path) -> Copy {
-        static COUNT: AtomicUsize = AtomicUsize::new(0);
-        let number = COUNT.fetch_add(1, Ordering::Relaxed);
-        let root = std::env::temp_dir().join(format!("wrong-{}-{number}", std::process::id()));
-        fs::create_dir_all(root.join("target")).expect("a temporary folder");
-        copied(&top.join("crates.txt"), &root);
-        copied(&top.join("crates"), &root);
-        std::os::unix::fs::symlink(top.join("target/rlib"), root.join("target/rlib"))
-            .expect("a link");
-        let top = top.to_path_buf();
-        Copy { top, root }
-    }
-
-    /// Takes over the stamps of what is proved by now.
-    pub fn trust_proved(&self) {
-        let stamps = self.root.join("target/stamp");
-        let _ = fs::remove_dir_all(&stamps);
-        copied(&self.top.join("target/stamp"), &self.root.join("target"));
-    }
-
-    /// The edits of a crate, by name, in wrong/ and in must-fail/.
-    pub fn edits(&self, name: &str) -> Vec<(String, String)> {
-        let mut all = Vec::new();
-        for part in PARTS {
-            let folder = self.top.join("crates").join(name).join(part);
-            let text = |file: &str| fs::read_to_string(folder.join(file)).expect("an edit");
-            let edit = |f: &String| Some((f.strip_suffix(".edit")?.to_string(), text(f)));
-            all.extend(names(&folder).iter().filter_map(edit));
+    /// The sources of all crates, without what checks left there and without the edits.
+    pub fn new(top: &Path, root: PathBuf) -> Copy {
+        for name in names(&top.join("crates")) {
+            let to = root.join("crates").join(&name);
+            for part in names(&top.join("crates").join(&name)) {
+                if part != "out" && !PARTS.contains(&part.as_str()) {
+                    fs::create_dir_all(&to).expect("a folder");
+                    let from = top.join("crates").join(&name).join(part);
+                    let done = Command::new("cp").arg("-R").arg(&from).arg(&to).status();
+                    assert!(
+                        done.is_ok_and(|s| s.success()),
+                        "{} is copied",
+                        from.display()
+                    );
+                }
+            }
         }
-        all
-    }
-
-    /// The functions of a crate that are proved by a walk by hand.
-    pub fn walked(&self, name: &str) -> BTreeSet<String> {
-        let mut found = BTreeSet::new();
-        walked_below(
-            &self.top.join("crates").join(name).join("proofs"),
-            &mut found,
-        );
-        found
-    }
-
-    /// The files of a crate that these edits may change.
-    pub fn files(&self, name: &str, edits: &[Edit]) -> Files {
-        let folder = self.top.join("crates").join(name);
-        let mut all = files(&folder, &["src", "specs"]);
-        for proof in edits.iter().filter_map(|edit| edit.proof.as_ref()) {
-            let text = fs::read_to_string(folder.join(&proof.file)).expect("a proof");
-            all.insert(proof.file.clone(), text);
+        for file in ["crates.txt", "HANDLES"] {
+            let from = top.join(file);
+            if from.exists() {
+                fs::copy(from, root.join(file)).expect("a file is copied");
+            }
         }
-        all
+        Copy { root }
     }
 
-    /// What `rt COMMAND NAME` says of the crate with these files.
-    fn said(&self, command: &str, name: &str, files: &Files) -> String {
+    fn folder(&self, name: &str) -> PathBuf {
+        self.root.join("crates").join(name)
+    }
+
+    /// Makes the crate's files these.
+    fn put(&self, name: &str, files: &Files) {
         for (path, text) in files {
-            let file = self.root.join("crates").join(name).join(path);
+            let file = self.folder(name).join(path);
             if fs::read_to_string(&file).ok().as_ref() != Some(text) {
+                fs::create_dir_all(file.parent().expect("a folder")).expect("a folder");
                 fs::write(file, text).expect("a file is written");
             }
         }
+    }
+
+    /// Makes the crate's files these again, where there are others.
+    pub fn restore(&self, name: &str, files: &Files) {
+        for path in crate_files(&self.root, name).keys() {
+            if !files.contains_key(path) {
+                fs::remove_file(self.folder(name).join(path)).expect("a file is removed");
+            }
+        }
+        self.put(name, files);
+    }
+
+    /// What `rt check` says of the crate with these flags.
+    fn said(&self, name: &str, flags: &[&str]) -> String {
         let said = Command::new("rt")
-            .args([command, name])
-            .current_dir(&self.root)
+            .arg("check")
+            .args(["--jobs", "1"])
+            .args(flags)
+            .current_dir(self.folder(name))
             .output()
             .expect("rt");
         String::from_utf8_lossy(&said.stdout).into_owned() + &String::from_utf8_lossy(&said.stderr)
     }
 
-    /// Checks the crate with these files.
-    pub fn check(&self, name: &str, files: &Files) -> Log {
-        Log(self.said("dev", name, files))
-    }
-
-    /// The crate with these files, compiled to MIR.
-    pub fn mir(&self, name: &str, files: &Files) -> String {
-        self.said("mir", name, files)
-    }
-
-    /// The crate as it was, for crates that stand on it; its incremental folder is not needed again.
-    pub fn restore(&self, name: &str, files: &Files) {
-        for (path, text) in files {
-            fs::write(self.root.join("crates").join(name).join(path), text)
-                .expect("a file is written");
+    /// Proves the crate as it is, and puts what that kept into a folder, from which each check of an edit begins.
+    pub fn prove(&self, name: &str, files: &Files, seed: &Path) -> Result<(), String> {
+        self.restore(name, files);
+        let log = Log(self.said(name, &[]));
+        if !log.proved() {
+            return Err(format!("{name} is not proved: {}", log.first_error().text));
         }
-        let _ = fs::remove_dir_all(self.root.join("target/inc").join(name));
+        let kept = self.folder(name).join(KEPT);
+        linked(&kept, seed).map_err(|e| format!("what a check kept is not copied: {e}"))
     }
-}
 
-impl Drop for Copy {
-    fn drop(&mut self) {
-        let _ = fs::remove_dir_all(&self.root);
+    /// Checks the crate with these files, over what its proof kept.
+    pub fn check(&self, name: &str, files: &Files, seed: &Path) -> Log {
+        let kept = self.folder(name).join(KEPT);
+        let _ = fs::remove_dir_all(&kept);
+        linked(seed, &kept).expect("what a check kept is copied");
+        self.restore(name, files);
+        Log(self.said(name, &[]))
+    }
+
+    /// The names that Rattle makes of the crate with these files; none where it does not compile.
+    pub fn names(&self, name: &str, files: &Files) -> Option<Names> {
+        self.restore(name, files);
+        let listed = self.root.join("names");
+        let _ = fs::remove_dir_all(&listed);
+        let flags = ["--generated", listed.to_str()?, "--old-names"];
+        self.said(name, &flags);
+        let text = fs::read_to_string(listed.join("names.json")).ok()?;
+        Names::read(name, &text)
     }
 }
 
@@ -179,18 +186,31 @@ mod tests {
     use super::*;
 
     #[test]
-    fn walks_are_told_from_answered_needs() {
-        let top = std::env::temp_dir().join(format!("wrong-walks-{}", std::process::id()));
-        let proof = |at: &str, text: &str| {
-            fs::create_dir_all(top.join(at)).unwrap();
-            fs::write(top.join(at).join("Proof.antt"), text).unwrap();
+    fn files_are_read_below_their_part_and_put_back() {
+        let top = std::env::temp_dir().join(format!("wrong-copy-{}", std::process::id()));
+        let folder = top.join("of/crates/k");
+        let write = |path: &str, text: &str| {
+            let file = folder.join(path);
+            fs::create_dir_all(file.parent().unwrap()).unwrap();
+            fs::write(file, text).unwrap();
         };
-        proof("m/tied", "use Rattle·x·proofs.proofs.m.tied.Tie as tie\n");
-        proof("m/walked", "use types.Run.{look}\n");
-        proof("+again", "use types.Run.{look}\n");
-        let mut found = BTreeSet::new();
-        walked_below(&top, &mut found);
-        fs::remove_dir_all(&top).unwrap();
-        assert_eq!(found.into_iter().collect::<Vec<_>>(), ["again", "walked"]);
+        write("src/lib.rt", "fn f() {}\n");
+        write("proofs/m/f/Answers.antt", "-- f\n");
+        write("out/incremental/a.oantt", "");
+        write("wrong/e.edit", "");
+        fs::write(top.join("of/crates.txt"), "k:\n").unwrap();
+        let right = crate_files(&top.join("of"), "k");
+        assert_eq!(right.len(), 2);
+        assert_eq!(right["proofs/m/f/Answers.antt"], "-- f\n");
+        let copy = Copy::new(&top.join("of"), top.join("copy"));
+        let mut wrong = right.clone();
+        wrong.insert("src/lib.rt".to_string(), "fn f() { }\n".to_string());
+        wrong.insert("proofs/m/f/Invariants.antt".to_string(), String::new());
+        copy.put("k", &wrong);
+        assert_eq!(crate_files(&top.join("copy"), "k"), wrong);
+        copy.restore("k", &right);
+        assert_eq!(crate_files(&top.join("copy"), "k"), right);
+        assert_eq!(names(&top.join("copy/crates/k")), ["proofs", "src"]);
+        fs::remove_dir_all(top).unwrap();
     }
 }

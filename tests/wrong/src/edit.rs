@@ -14,7 +14,7 @@ pub struct Change {
     pub control: Option<String>,
 }
 
-/// A proof that fits the changed shape, and takes the place of the function's own: the control is proved by it.
+/// A file of a function's proof that fits the changed shape, and takes the place of its own: the control is proved by it.
 #[derive(Clone)]
 pub struct Proof {
     pub file: String,
@@ -26,7 +26,7 @@ pub struct Edit {
     /// The functions that it is a wrong program of; none where it is a wrong definition.
     pub of: Vec<String>,
     pub changes: Vec<Change>,
-    pub proof: Option<Proof>,
+    pub proofs: Vec<Proof>,
 }
 
 /// A method is named with its type before it, as `CodeCursor::fetch_byte`.
@@ -36,7 +36,7 @@ fn last_part(name: &str) -> String {
 
 impl Edit {
     pub fn parse(name: &str, text: &str) -> Result<Edit, String> {
-        let (text, proof) = Proof::behind(text);
+        let (text, proofs) = Proof::behind(text);
         let (mut of, mut changes) = (Vec::new(), Vec::new());
         let (mut file, mut within, mut old) = (String::new(), None, None);
         for line in text.lines() {
@@ -75,20 +75,17 @@ impl Edit {
         if of.is_empty() && changes.iter().any(of_code) {
             return Err("it changes code, and has no line 'of:'".to_string());
         }
-        if proof.is_some() && changes.iter().all(|change| change.control.is_none()) {
+        if !proofs.is_empty() && changes.iter().all(|change| change.control.is_none()) {
             return Err("it has a proof, and no control that is proved by it".to_string());
         }
-        if proof
-            .as_ref()
-            .is_some_and(|proof| !proof.is_of_a_function())
-        {
+        if !proofs.iter().all(Proof::is_of_a_function) {
             return Err("what it brings is no function's proof".to_string());
         }
         Ok(Edit {
             name: name.to_string(),
             of,
             changes,
-            proof,
+            proofs,
         })
     }
 
@@ -109,13 +106,13 @@ impl Edit {
             name: self.name.clone(),
             of: self.of.clone(),
             changes,
-            proof: self.proof.clone(),
+            proofs: self.proofs.clone(),
         })
     }
 
     /// Makes the edit. The answer is the functions in which it lies; a place outside every function is none.
     pub fn make(&self, files: &mut Files) -> Result<Vec<Option<String>>, String> {
-        if let Some(proof) = &self.proof {
+        for proof in &self.proofs {
             files.insert(proof.file.clone(), proof.text.clone());
         }
         self.changes
@@ -128,17 +125,23 @@ impl Edit {
 impl Proof {
     /// A shared file of proofs or a definition would change other functions too.
     fn is_of_a_function(&self) -> bool {
-        self.file.starts_with("proofs/") && self.file.ends_with("/Proof.antt")
+        let of_one = ["/Answers.antt", "/Invariants.antt", "/Proof.antt"];
+        self.file.starts_with("proofs/") && of_one.iter().any(|end| self.file.ends_with(end))
     }
 
-    /// An edit's text up to the line `proof:`, and the proof that is all behind it.
-    fn behind(text: &str) -> (&str, Option<Proof>) {
-        let Some((edit, rest)) = text.split_once("\nproof: ") else {
-            return (text, None);
+    /// An edit's text up to the first line `proof:`, and the files that are behind such lines, each up to the next.
+    fn behind(text: &str) -> (&str, Vec<Proof>) {
+        let mut parts = text.split("\nproof: ");
+        let edit = parts.next().unwrap_or("");
+        let proof = |part: &str| {
+            let (file, text) = part.split_once('\n').unwrap_or((part, ""));
+            let (file, mut text) = (file.to_string(), text.to_string());
+            if !text.is_empty() && !text.ends_with('\n') {
+                text.push('\n');
+            }
+            Proof { file, text }
         };
-        let (file, text) = rest.split_once('\n').unwrap_or((rest, ""));
-        let (file, text) = (file.to_string(), text.to_string());
-        (edit, Some(Proof { file, text }))
+        (edit, parts.map(proof).collect())
     }
 }
 
@@ -245,17 +248,19 @@ mod tests {
 
     #[test]
     fn may_bring_a_proof_of_its_shape() {
-        let proof = "proof: proofs/f/Proof.antt\n-- Why.\nold: no line of the edit\n";
+        let proof = "proof: proofs/f/Answers.antt\n-- Why.\nold: no line of the edit\n";
         assert!(Edit::parse("e", &format!("{EDIT}{proof}")).is_err());
         let text = format!("{EDIT}control:     a + 1 + 0\n{proof}");
-        assert!(Edit::parse("e", &text.replace("proofs/f/Proof", "specs/A")).is_err());
-        assert!(Edit::parse("e", &text.replace("proofs/f/Proof", "proofs/Laws")).is_err());
-        let edit = Edit::parse("e", &text).unwrap();
+        assert!(Edit::parse("e", &text.replace("proofs/f/Answers", "specs/A")).is_err());
+        assert!(Edit::parse("e", &text.replace("proofs/f/Answers", "proofs/Laws")).is_err());
+        let more = format!("{text}proof: proofs/f/Invariants.antt\n-- How.\n");
+        let edit = Edit::parse("e", &more).unwrap();
         for edit in [edit.control().unwrap(), edit] {
             let mut files = files("fn f(a: u8) -> u8\n{\n    a + 1\n}\n");
             assert_eq!(edit.make(&mut files).unwrap().len(), 1);
-            let there = &files["proofs/f/Proof.antt"];
+            let there = &files["proofs/f/Answers.antt"];
             assert_eq!(there, "-- Why.\nold: no line of the edit\n");
+            assert_eq!(files["proofs/f/Invariants.antt"], "-- How.\n");
         }
     }
 

@@ -1,8 +1,18 @@
 //! What a check says of an edit, and of its control.
 
 use crate::batch::Placed;
-use crate::prover::{Log, about_form, about_parts, site};
+use crate::names::Names;
+use crate::prover::{About, Log, site};
 use crate::source::{Files, reached};
+
+/// A check of edited files, with what is known of their names.
+pub struct Checked<'a> {
+    pub log: &'a Log,
+    /// The files as they were checked.
+    pub files: &'a Files,
+    /// The names of the right program and of the one that was checked; none where no function was edited, or where it does not compile.
+    pub names: Option<(&'a Names, &'a Names)>,
+}
 
 /// What came of a control.
 #[derive(Debug, PartialEq, Eq)]
@@ -14,73 +24,80 @@ pub enum Controlled {
     Missing(String),
 }
 
-/// The error by which an edit is refused, or why it does not pass.
-pub fn wrong(log: &Log, files: &Files, placed: &Placed) -> Result<String, String> {
-    if !log.refused() {
-        return Err(format!(
-            "not refused by the prover; the log: {}",
-            log.first_error()
-        ));
-    }
-    let mut error = log.first_error();
-    if placed.edit.of.is_empty() && about_form(error) {
-        return Err(format!("refused for its form: {error}"));
-    }
-    for of in &placed.edit.of {
-        if !log.unproved(of) {
-            return Err(format!("refused, but {of} is proved: {error}"));
-        }
-        error = error_below(log, files, placed, of)?;
-    }
-    Ok(error.to_string())
-}
-
-/// The error of a function in which the edit lies, and which is `of` or is called by it: a fact that fails. Where one of its errors
-/// is about the proof's form, none of them counts. An edit of a definition, or of a constant, lies in no function.
-fn error_below<'a>(
-    log: &'a Log,
-    files: &Files,
-    placed: &Placed,
-    of: &str,
-) -> Result<&'a str, String> {
-    let reached = reached(files, of);
-    let first = log.first_error();
-    let mut why = format!("{of} calls nothing that is refused by itself: {first}");
-    for function in &placed.functions {
-        let own = match function {
-            None => vec![first],
-            Some(f) if reached.contains(f) => log.own_errors(f),
-            Some(_) => Vec::new(),
+impl Checked<'_> {
+    /// The errors of a function by itself, with what each is about.
+    fn own_errors(&self, function: &str) -> Vec<crate::prover::Error<'_>> {
+        let is_new = |goal: &str| {
+            self.names
+                .is_some_and(|(right, wrong)| wrong.is_new(right, function, goal))
         };
-        let form = own.iter().find(|error| about_form(error));
-        let fact = own.iter().find(|error| !about_parts(error));
-        match form.or(fact).or(own.first()) {
-            Some(error) if about_form(error) || about_parts(error) => {
-                why = format!("refused for its form: {error}")
+        self.log.own_errors(function, self.files, &is_new)
+    }
+
+    /// The error by which an edit is refused, or why it does not pass.
+    pub fn wrong(&self, placed: &Placed) -> Result<String, String> {
+        let first = self.log.first_error();
+        if !self.log.refused() {
+            return Err(format!(
+                "not refused by the prover; the log: {}",
+                first.text
+            ));
+        }
+        let mut error = first.text;
+        if placed.edit.of.is_empty() && first.about != About::Fact {
+            return Err(format!("refused for its form: {error}"));
+        }
+        for of in &placed.edit.of {
+            if !self.log.unproved(of) {
+                return Err(format!("refused, but {of} is proved: {error}"));
             }
-            Some(error) => return Ok(error),
-            None => {}
+            error = self.error_below(placed, of)?;
         }
+        Ok(error.to_string())
     }
-    Err(why)
-}
 
-/// A control is proved where no function in which it lies has an error of its own: what it calls may be edited in the
-/// same check.
-pub fn control(log: &Log, placed: &Placed) -> Controlled {
-    for function in &placed.functions {
-        let Some(function) = function else {
-            return Controlled::Missing("its control lies in no function".to_string());
-        };
-        if !log.judged(function) {
-            let why = format!("its control is not judged: {}", log.first_error());
-            return Controlled::Missing(why);
+    /// The error of a function in which the edit lies, and which is `of` or is called by it: a fact that fails. Where one of its errors
+    /// is about the proof's form, none of them counts. An edit of a definition, or of a constant, lies in no function.
+    fn error_below(&self, placed: &Placed, of: &str) -> Result<&str, String> {
+        let reached = reached(self.files, of);
+        let mut why = format!(
+            "{of} calls nothing that is refused by itself: {}",
+            self.log.first_error().text
+        );
+        for function in &placed.functions {
+            let own = match function {
+                None => vec![self.log.first_error()],
+                Some(f) if reached.contains(f) => self.own_errors(f),
+                Some(_) => Vec::new(),
+            };
+            let of_sort = |about: About| own.iter().find(|error| error.about == about);
+            let found = of_sort(About::Form).or(of_sort(About::Fact));
+            match found.or(own.first()) {
+                Some(error) if error.about == About::Fact => return Ok(error.text),
+                Some(error) => why = format!("refused for its form: {}", error.text),
+                None => {}
+            }
         }
-        if let Some(error) = log.own_error(function) {
-            return Controlled::Refused(error.to_string());
-        }
+        Err(why)
     }
-    Controlled::Proved
+
+    /// A control is proved where no function in which it lies has an error of its own: what it calls may be edited in the
+    /// same check.
+    pub fn control(&self, placed: &Placed) -> Controlled {
+        for function in &placed.functions {
+            let Some(function) = function else {
+                return Controlled::Missing("its control lies in no function".to_string());
+            };
+            if let Some(error) = self.own_errors(function).first() {
+                return Controlled::Refused(error.text.to_string());
+            }
+            if !self.log.judged(function) {
+                let why = self.log.first_error().text;
+                return Controlled::Missing(format!("its control is not judged: {why}"));
+            }
+        }
+        Controlled::Proved
+    }
 }
 
 /// An edit that is refused by this error counts where its control is proved or refused at another place; where it brings a
@@ -124,21 +141,46 @@ mod tests {
         Log(lines.join("\n"))
     }
 
-    const FACT: &str = "/p/f/Proof.antt:9:1: error: `returns`: the two types differ";
-    const ELSEWHERE: &str = "/p/f/Proof.antt:7:4: error: `returns`: the two types differ";
-    const FORM: &str = "/p/f/Proof.antt:9:1: error: `returns`: record `After-if1` has no field `f`";
-    const PARTS: &str = "/p/f/Proof.antt:8:1: error: `add`: module `f.Tie` has no `Need-add`";
+    fn wrong(log: Log, files: &Files, placed: &Placed) -> Result<String, String> {
+        let names = None;
+        Checked {
+            log: &log,
+            files,
+            names,
+        }
+        .wrong(placed)
+    }
+
+    fn control(log: Log, placed: &Placed) -> Controlled {
+        let (files, names) = (&files(), None);
+        Checked {
+            log: &log,
+            files,
+            names,
+        }
+        .control(placed)
+    }
+
+    const FACT: &str = "./proofs/f/Answers.antt:9:1: error: `returns`: the two types differ";
+    const ELSEWHERE: &str = "./proofs/f/Answers.antt:7:4: error: `returns-2`: the two types differ";
+    const FORM: &str =
+        "./proofs/f/Answers.antt:9:1: error: `returns`: record `Then1` has no field `f`";
+    const PARTS: &str = "./proofs/f/Answers.antt:8:1: error: `add`: `goal.add`: module `f.Goals` has no `add` that can be named";
+    const OPEN: &str =
+        "note: src/lib.rt:2:5: it is not proved that it returns what is right (`returns`)";
 
     #[test]
     fn an_edit_is_refused_for_a_fact() {
-        let judged = |error: &str| wrong(&log(error, "not proved"), &files(), &edit());
-        assert!(judged(FACT).unwrap().starts_with("f/Proof.antt:9:1"));
+        let judged = |error: &str| wrong(log(error, "not proved"), &files(), &edit());
+        assert!(judged(FACT).unwrap().starts_with("f/Answers.antt:9:1"));
         assert!(judged(FORM).unwrap_err().contains("form"));
         assert!(judged(PARTS).unwrap_err().contains("form"));
         assert!(judged(&format!("{PARTS}\n{FACT}")).is_ok());
         assert!(judged(&format!("{FACT}\n{FORM}")).is_err());
-        assert!(wrong(&log("", "proved"), &files(), &edit()).is_err());
-        assert!(wrong(&Log("logic=proved".to_string()), &files(), &edit()).is_err());
+        assert!(judged(OPEN).is_ok());
+        assert!(wrong(log("", "proved"), &files(), &edit()).is_err());
+        let proved = Log("logic=proved".to_string());
+        assert!(wrong(proved, &files(), &edit()).is_err());
     }
 
     #[test]
@@ -148,40 +190,41 @@ mod tests {
             .replace("of: f\n", "")
             .replace("src/lib.rt", "specs/A.antt");
         let placed = Placed::new(Edit::parse("e", &text).unwrap(), &files).unwrap();
-        let judged = |error| wrong(&log(error, "not proved"), &files, &placed);
+        let judged = |error| wrong(log(error, "not proved"), &files, &placed);
         assert!(judged(FACT).is_ok());
         assert!(judged(FORM).is_err());
+        assert!(judged("./specs/A.antt:1:1: error: `g` is not in scope").is_err());
     }
 
     #[test]
     fn a_control_is_proved_or_refused() {
         let placed = edit().control(&files()).unwrap();
-        let judged = |error, verdict| control(&log(error, verdict), &placed);
+        let judged = |error, verdict| control(log(error, verdict), &placed);
         assert_eq!(judged("", "proved"), Controlled::Proved);
-        assert_eq!(
-            judged("", "not proved; it calls `x::h`, which is not proved"),
-            Controlled::Proved
-        );
+        let below = "not proved; it calls `x::h`, which is not proved";
+        assert_eq!(judged("", below), Controlled::Proved);
         assert!(matches!(judged(FACT, "not proved"), Controlled::Refused(_)));
-        let nothing = control(&Log("error: expected `;`".to_string()), &placed);
+        let calls = "no proof: it calls `x::h`, which is not proved";
+        assert!(matches!(judged("", calls), Controlled::Missing(_)));
+        let nothing = control(Log("error: expected `;`".to_string()), &placed);
         assert!(matches!(nothing, Controlled::Missing(_)));
     }
 
     #[test]
     fn an_edit_counts_only_beside_its_control() {
-        let error = || "f/Proof.antt:9:1: error: a".to_string();
+        let error = || FACT.to_string();
         let refused = |other: &str| Some(Controlled::Refused(other.to_string()));
         let beside = |control, own_proof| beside_control(error(), control, own_proof);
         assert!(beside(None, false).is_ok());
         assert!(beside(Some(Controlled::Proved), false).is_ok());
-        assert!(beside(refused("f/Proof.antt:7:4: error: a"), false).is_ok());
-        assert!(beside(refused("f/Proof.antt:9:1: error: b"), false).is_err());
+        assert!(beside(refused(ELSEWHERE), false).is_ok());
+        assert!(beside(refused(FACT), false).is_err());
         assert!(beside(Some(Controlled::Proved), true).is_ok());
-        assert!(beside(refused("f/Proof.antt:7:4: error: a"), true).is_err());
+        assert!(beside(refused(ELSEWHERE), true).is_err());
         let missing = Controlled::Missing("none".to_string());
         assert!(beside(Some(missing), false).is_err());
-        let other = log(ELSEWHERE, "not proved");
         let placed = edit().control(&files()).unwrap();
-        assert!(beside(Some(control(&other, &placed)), false).is_ok());
+        let other = control(log(ELSEWHERE, "not proved"), &placed);
+        assert!(beside(Some(other), false).is_ok());
     }
 }

@@ -1,17 +1,54 @@
 //! What a check says of each function of a crate.
 
-/// What `rt dev` printed.
+use crate::source::{Files, function_on};
+
+/// What `rt check` printed.
 pub struct Log(pub String);
 
+/// What an error of a function is about.
+#[derive(Clone, Copy, Debug, PartialEq, Eq)]
+pub enum About {
+    /// A fact that fails: an answer that does not show its goal, or a goal that Rattle does not show.
+    Fact,
+    /// The program asks for a goal more than the right one, or for one fewer. This is no fact, and spoils none.
+    Parts,
+    /// The proof names something that is not there, so that a fact may stand at another place.
+    Form,
+}
+
+pub struct Error<'a> {
+    pub text: &'a str,
+    pub about: About,
+}
+
+/// The function's files that errors name.
+const PROOFS: [&str; 3] = ["Answers.antt:", "Invariants.antt:", "Proof.antt:"];
+
+/// Before the names of the goals that are open.
+const OPEN: &str = ": it is not proved that ";
+
 impl Log {
+    pub fn proved(&self) -> bool {
+        self.0.lines().any(|line| line.starts_with("logic=proved"))
+    }
+
     /// Whether the code reached the prover, and was refused.
     pub fn refused(&self) -> bool {
         self.0.lines().any(|line| line == "logic=not-proved")
     }
 
-    /// Whether the code reached the prover, and what is said of this function.
+    /// Whether the code reached the prover, and all that this function asks was tried: what Rattle seeks by itself, it seeks only where each
+    /// function that is called is proved.
     pub fn judged(&self, name: &str) -> bool {
-        self.0.lines().any(|line| line.starts_with("logic=")) && self.verdict(name).is_some()
+        let waits = |line: &str| {
+            line.starts_with("note: `search` has not tried ")
+                && line.contains(&format!("::{name}`"))
+        };
+        self.0.lines().any(|line| line.starts_with("logic="))
+            && self
+                .verdict(name)
+                .is_some_and(|v| !v.starts_with("no proof: it calls"))
+            && !self.0.lines().any(waits)
     }
 
     /// What is said of a function: `proved`, or why not.
@@ -30,43 +67,54 @@ impl Log {
         verdict.starts_with("not proved") || verdict.starts_with("no proof")
     }
 
-    /// The errors of a function that is not proved by itself: messages that name its proof (with a `+` before the name of a
-    /// recursive function) and do not only say that another part was not admitted; or, where it has no proof of its own,
-    /// the fact that was not found.
-    pub fn own_errors(&self, name: &str) -> Vec<&str> {
-        let verdict = self.verdict(name).unwrap_or("proved");
-        if verdict.starts_with("no proof") && verdict.contains("does not close") {
-            return vec![verdict];
-        }
-        if !verdict.starts_with("not proved") {
+    /// The errors of a function that is not proved by itself: messages that name its proof (with a `+` before the name of a recursive
+    /// function) and do not only say that another part was not admitted, and goals of its code that are open. `is_new` tells a goal
+    /// that the right program does not have.
+    pub fn own_errors(
+        &self,
+        name: &str,
+        files: &Files,
+        is_new: &dyn Fn(&str) -> bool,
+    ) -> Vec<Error<'_>> {
+        if !self.unproved(name) {
             return Vec::new();
         }
-        let proof = format!("{name}/Proof.antt:");
-        let of_it = |line: &str, at: usize| line[..at].ends_with('/') || line[..at].ends_with("/+");
-        let own = |said: &'_ str| -> Option<usize> {
-            let line = said.lines().next().unwrap_or("");
-            let at = line.find(&proof).filter(|at| of_it(line, *at))?;
-            let fact = line.contains(": error: ") && !line.contains("was not admitted");
-            fact.then_some(at)
+        let own = |text: &'_ str| -> Option<(usize, About)> {
+            let line = text.lines().next().unwrap_or("");
+            if let Some(at) = of_proof(line, name) {
+                return is_error(line).then(|| (at, about(text)));
+            }
+            let goal = open_goal(line, name, files)?;
+            let shown = line.contains("allow values at which this goal is false");
+            let is_fact = shown || !is_new(goal);
+            Some((0, if is_fact { About::Fact } else { About::Parts }))
         };
         let all = self.messages().into_iter();
-        all.filter_map(|said| own(said).map(|at| &said[at..]))
+        all.filter_map(|text| own(text).map(|(at, about)| (&text[at..], about)))
+            .map(|(text, about)| Error { text, about })
             .collect()
     }
 
-    /// The first of them.
-    pub fn own_error(&self, name: &str) -> Option<&str> {
-        self.own_errors(name).first().copied()
-    }
-
     /// The first error of all.
-    pub fn first_error(&self) -> &str {
-        let is_error = |said: &&str| {
+    pub fn first_error(&self) -> Error<'_> {
+        let first = |said: &&str| {
             let line = said.lines().next().unwrap_or("");
-            line.contains(": error") || line.starts_with("note: ")
+            line.contains(OPEN) || line.starts_with("error") || is_error(line)
         };
-        let found = self.messages().into_iter().find(is_error);
-        found.unwrap_or("no error is named")
+        match self.messages().into_iter().find(first) {
+            Some(text) if text.lines().next().unwrap_or("").contains(OPEN) => Error {
+                text,
+                about: About::Fact,
+            },
+            Some(text) => Error {
+                text,
+                about: about(text),
+            },
+            None => Error {
+                text: "no error is named",
+                about: About::Form,
+            },
+        }
     }
 
     /// The lines, each with those that go on from it: these begin with a space.
@@ -84,52 +132,75 @@ impl Log {
     }
 }
 
-/// Where an error is: the file of the proof, the line and the place in it; or the fact that was not found.
-pub fn site(error: &str) -> &str {
-    error.split(": error: ").next().unwrap_or(error)
+/// Whether a line tells an error, and not only that what rests on another one was not checked.
+fn is_error(line: &str) -> bool {
+    let rests = ["was not admitted", "were not checked", "was not checked"];
+    line.contains(": error") && !rests.iter().any(|words| line.contains(words))
 }
 
-/// The form of a function in the compiled program that `rt mir` prints: its text without the values of whole numbers.
-/// None where it has no such function.
-pub fn form(mir: &str, name: &str) -> Option<String> {
-    const DEF: &str = "(fn-def \"";
-    let parts = mir.split(DEF).skip(1);
-    let of_it = |part: &&str| {
-        let path = part.split('"').next().unwrap_or("");
-        path.rsplit("::").next() == Some(name)
-    };
-    let forms: Vec<String> = parts.filter(of_it).map(without_numbers).collect();
-    (!forms.is_empty()).then(|| forms.join("\n"))
+/// Where a line names the proof of this function.
+fn of_proof(line: &str, name: &str) -> Option<usize> {
+    let of_it = |at: usize| line[..at].ends_with('/') || line[..at].ends_with("/+");
+    PROOFS
+        .iter()
+        .filter_map(|file| line.find(&format!("{name}/{file}")))
+        .find(|at| of_it(*at))
 }
 
-/// A number is written `(int WIDTH VALUE)`, with `(..)` about a value below zero.
-fn without_numbers(text: &str) -> String {
-    const INT: &str = "(int ";
-    let mut parts = text.split(INT);
-    let mut out = parts.next().unwrap_or("").to_string();
-    for part in parts {
-        let end = part.find(')').unwrap_or(part.len());
-        let width = part[..end].split(' ').next().unwrap_or("");
-        out += &format!("{INT}{width} _{}", &part[end..]);
+/// The goal that a line tells to be open, if it is one of this function's code: the file and the line are told before it, and the goal's
+/// name behind it.
+fn open_goal<'a>(line: &'a str, name: &str, files: &Files) -> Option<&'a str> {
+    let (place, said) = line.split_once(OPEN)?;
+    let mut place = place.trim_start_matches("note: ").split(':');
+    let (file, number) = (place.next()?, place.next()?.parse().ok()?);
+    let text = files.get(file.trim_start_matches("./"))?;
+    if function_on(text, number)? != name {
+        return None;
     }
-    out
+    let (_, goal) = said.rsplit_once("(`")?;
+    goal.split('`').next()
 }
 
-/// Whether an error is about the form of a proof: it names a part of `c` that the code has no longer, so that a fact may stand at
-/// another place.
-pub fn about_form(error: &str) -> bool {
-    let said = in_one_line(error);
-    said.contains("has no field `") || said.contains("has no `") && !about_parts(error)
+/// Where an error is: the function's file and the goal, or the goal alone.
+pub fn site(error: &str) -> String {
+    let line = error.lines().next().unwrap_or("");
+    let goal = match line.split_once(": error: `") {
+        Some((_, rest)) => rest.split('`').next(),
+        None => line
+            .rsplit_once("(`")
+            .and_then(|(_, rest)| rest.split('`').next()),
+    };
+    let file = line.split(".antt:").next().filter(|f| f.len() < line.len());
+    format!("{} {}", file.unwrap_or(""), goal.unwrap_or(line))
 }
 
-/// Whether an error only says that the changed program asks for more or fewer parts than the proof gives, or that a slice keeps its
-/// length for another reason, as a slice that is lent elsewhere does. The other parts stay as they are.
-pub fn about_parts(error: &str) -> bool {
+/// What an error of a proof or of a definition is about, by its words.
+fn about(error: &str) -> About {
     let said = in_one_line(error);
-    let put_together = said.split_once("-spec`: expected type `");
-    let expected = put_together.and_then(|(_, rest)| rest.split([' ', '`']).next());
-    let other_part = expected.is_some_and(|part| part.contains(".Need-"));
-    other_part || said.contains("` has no `Need-") || said.contains(": error: `same-length")
+    let Some((_, rest)) = said.split_once(": error: ") else {
+        // of the code itself, which then does not reach the prover
+        return About::Form;
+    };
+    // an answer to a goal that is not asked
+    let declared = rest.split('`').nth(1).unwrap_or("");
+    let unasked = format!("Goals` has no `{declared}` that can be named");
+    if !declared.is_empty() && said.contains(&unasked) {
+        return About::Parts;
+    }
+    let form = [
+        "has no field `",
+        "that can be named",
+        "is not in scope",
+        "is no name",
+        "operand is missing",
+        "expected the end",
+        "cannot continue",
+    ];
+    if !rest.starts_with('`') || form.iter().any(|words| said.contains(words)) {
+        About::Form
+    } else {
+        About::Fact
+    }
 }
 
 /// A long message is broken at any space.
@@ -144,85 +215,88 @@ mod tests {
 
     fn log() -> Log {
         Log([
-            "/x/proofs/m/low/Proof.antt:9:1: error: `returns`: the two types differ where one has `3`",
-            "/x/proofs/m/low/Proof.antt:12:1: error: `low-spec`: `returns` was not admitted (it has holes)",
-            "/x/proofs/m/top/Proof.antt:12:1: error: `top-spec`: `close` was not admitted (it has holes)",
-            "/x/proofs/m/+again/Proof.antt:9:1: error: `returns`: the two types differ where one has `4`",
+            "./proofs/m/low/Answers.antt:9:1: error: `returns`: the two types differ only where one has `3`",
+            "./proofs/m/low/Answers.antt:12:1: error: `returns-2`: `other` was not admitted",
+            "./proofs/m/low/Answers.antt:13:1: error: 1 declaration that depends on `x`, which was rejected, was not checked: a",
+            "./proofs/m/+again/Answers.antt:9:1: error: `returns`: the two types differ only where one has `4`",
+            "note: src/lib.rt:3:5: it is not proved that what the function ensures holds when it returns (`returns`)",
+            "note: src/lib.rt:7:5: it is not proved that the sum fits its type (`overflow_add-a`); the facts known there allow values at which this goal is false",
             "fn x::m::low: not proved",
             "fn x::m::again: not proved",
-            "fn x::m::top: not proved; it calls `x::m::low`, which is not proved",
-            "fn x::m::plain: no proof: expected `plain-spec` in /x; `search` does not close `returns`",
+            "fn x::m::top: no proof: it calls `x::m::low`, which is not proved",
+            "note: `search` has not tried the goals of `x::m::over`, which wait for a callee's proof: some may be open after it",
+            "fn x::m::over: not proved; it calls `x::m::low`, which is not proved",
+            "fn x::m::plain: no proof: expected answers in ./proofs/plain/Answers.antt; `search` did not prove `returns`",
+            "fn x::m::sum: not proved",
             "fn x::m::right: proved",
             "logic=not-proved",
         ]
         .join("\n"))
     }
 
+    fn files() -> Files {
+        let text = "fn plain() -> u8\n{\n    1\n}\n\nfn sum(a: u8) -> u8 {\n    a + 1\n}\n";
+        Files::from([("src/lib.rt".to_string(), text.to_string())])
+    }
+
+    fn own(name: &str, is_new: bool) -> Vec<(String, About)> {
+        let (log, files) = (log(), files());
+        let errors = log.own_errors(name, &files, &|_| is_new);
+        let all = errors.iter().map(|e| (e.text.to_string(), e.about));
+        all.collect()
+    }
+
     #[test]
     fn an_error_of_its_own_is_told_from_a_callees() {
-        assert!(log().refused());
-        assert!(log().own_error("low").unwrap().contains("`3`"));
-        assert!(log().own_error("plain").unwrap().starts_with("no proof"));
-        assert!(log().own_error("again").unwrap().contains("`4`"));
-        assert_eq!(log().own_error("top"), None);
-        assert_eq!(log().own_error("right"), None);
+        assert!(log().refused() && !log().proved());
+        let low = own("low", false);
+        assert_eq!(low.len(), 1);
+        assert!(low[0].0.contains("`3`") && low[0].0.starts_with("low/Answers.antt:9"));
+        assert!(own("again", false)[0].0.contains("`4`"));
+        assert!(own("top", false).is_empty() && own("right", false).is_empty());
     }
 
     #[test]
-    fn an_error_may_go_on_in_further_lines() {
-        let log = Log([
-            "/x/proofs/m/low/Proof.antt:9:1: error: `returns`: record `a.long.name`",
-            "  has no",
-            "  field `if1`",
-            "fn x::m::low: not proved",
-            "logic=not-proved",
-        ]
-        .join("\n"));
-        assert!(about_form(log.own_error("low").unwrap()));
-        assert!(about_form(log.first_error()));
-        assert_eq!(site(log.own_error("low").unwrap()), "low/Proof.antt:9:1");
+    fn an_open_goal_is_a_fact_if_the_right_program_has_it_or_it_is_shown_false() {
+        assert_eq!(own("plain", false)[0].1, About::Fact);
+        assert_eq!(own("plain", true)[0].1, About::Parts);
+        assert_eq!(own("sum", true)[0].1, About::Fact);
     }
 
     #[test]
-    fn parts_more_or_fewer_are_told_from_the_form() {
-        let more = "low/Proof.antt:9:1: error: `low-spec`: expected type `tie.Need-a`, but this has type `tie.Need-b`";
-        let fewer = "low/Proof.antt:9:1: error: `add`: `tie.Need-add`: module `m.low.Tie`\n  has no `Need-add` that can be named";
-        let form = "low/Proof.antt:9:1: error: `add`: `c` has no `if1`";
-        let length = "low/Proof.antt:9:1: error: `same-length-2`: the two types differ";
-        let given = "low/Proof.antt:9:1: error: `low-spec`: the two types differ where one has `2`\n  expected type `Inv-loop`";
-        assert!(!about_parts(given) && !about_form(given));
-        assert!(about_parts(more) && about_parts(fewer) && about_parts(length));
-        assert!(!about_parts(form) && !about_parts(&length.replace("same-length-2", "returns")));
-        assert!(!about_form(more) && !about_form(fewer) && about_form(form));
+    fn words_tell_what_an_error_is_about() {
+        let said = |words: &str| about(&format!("./proofs/f/Answers.antt:9:1: error: {words}"));
+        let unasked = "`add`: `goal.add`: module `Rattle.x.proofs.f.Goals`\n  has no `add` that can be named from here";
+        assert_eq!(said(unasked), About::Parts);
+        assert_eq!(said("`add`: record `A` has no\n  field `b`"), About::Form);
+        assert_eq!(
+            said(
+                "`add`: `goal.sub`: module `Rattle.x.proofs.f.Goals` has no `sub` that can be named"
+            ),
+            About::Form
+        );
+        assert_eq!(said("`x` is not in scope"), About::Form);
+        assert_eq!(said("expected a term"), About::Form);
+        assert_eq!(
+            said("`add`: `omega`: the goal does not follow"),
+            About::Fact
+        );
+        assert_eq!(about("error[E1]: expected `;`"), About::Form);
     }
 
     #[test]
     fn errors_have_a_site() {
-        let log = log();
-        let place = "low/Proof.antt:9:1";
-        assert_eq!(site(log.own_error("low").unwrap()), place);
-        let plain = log.own_error("plain").unwrap();
-        assert_eq!(site(plain), plain);
+        let site_of = |name: &str| site(&own(name, false)[0].0);
+        assert_eq!(site_of("low"), "low/Answers returns");
+        assert_eq!(site_of("plain"), " returns");
+        assert_eq!(site_of("sum"), " overflow_add-a");
     }
 
     #[test]
-    fn a_function_is_judged_where_the_prover_names_it() {
-        assert!(log().judged("low") && log().judged("right"));
-        assert!(!log().judged("absent"));
+    fn a_function_is_judged_where_all_that_it_asks_was_tried() {
+        assert!(log().judged("low") && log().judged("right") && log().judged("plain"));
+        assert!(!log().judged("absent") && !log().judged("over") && !log().judged("top"));
         assert!(!Log("fn x::low: proved\nerror: expected `;`".to_string()).judged("low"));
-    }
-
-    #[test]
-    fn a_form_is_without_its_numbers() {
-        let mir = |n: &str, length: &str| {
-            let f = format!("(lcons (fn-def \"m::f\" (op2 (copy 1) (int 64 {n}))) ");
-            f + &format!("(lcons (fn-def \"m::g\" (tyArray (lenLit {length}))) lnil))")
-        };
-        assert_eq!(form(&mir("1", "64"), "f"), form(&mir("2", "64"), "f"));
-        assert_ne!(form(&mir("1", "64"), "g"), form(&mir("1", "32"), "g"));
-        let other = mir("1", "64").replace("copy 1", "copy 2");
-        assert_ne!(form(&mir("1", "64"), "f"), form(&other, "f"));
-        assert_eq!(form(&mir("1", "64"), "h"), None);
     }
 
     #[test]

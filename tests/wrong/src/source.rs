@@ -51,6 +51,12 @@ pub fn function_at(text: &str, at: usize) -> Option<String> {
         .map(|(name, _, _)| name)
 }
 
+/// The function that has a line of a file, counted from 1.
+pub fn function_on(text: &str, line: usize) -> Option<String> {
+    let lines = text.split_inclusive('\n').take(line.checked_sub(1)?);
+    function_at(text, lines.map(str::len).sum())
+}
+
 /// Where a function of this name begins and ends in a file.
 pub fn place_of(text: &str, name: &str) -> Option<(usize, usize)> {
     let found = functions(text).into_iter().find(|f| f.0 == name)?;
@@ -111,6 +117,9 @@ mod tests {
             function_at(TEXT, TEXT.find("ensures").unwrap()).unwrap(),
             "top"
         );
+        let on: Vec<_> = (0..5).map(|line| function_on(TEXT, line)).collect();
+        let low = || Some("low".to_string());
+        assert_eq!(on, [None, None, None, low(), low()]);
     }
 
     #[test]

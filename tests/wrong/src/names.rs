@@ -1,0 +1,347 @@
+//! The names that Rattle makes of a function's code, as `rt check --generated OUT --old-names` lists them, and a proof carried over to the names of a
+//! wrong program.
+//!
+//! A goal is named for its place in the code: behind `if w > 7` stands `returns-then-w-gt7`. So a wrong number renames goals, and a proof by the old names
+//! says nothing of the new ones. Where the wrong program has the same goals and places in the same order, the tool writes the new names into the function's
+//! proof. What is then refused is a fact, and not a name.
+
+use std::collections::{BTreeMap, BTreeSet};
+
+/// A value of JSON. Numbers are kept as they are written.
+#[derive(Clone, Debug, PartialEq)]
+enum Json {
+    Word(String),
+    Text(String),
+    List(Vec<Json>),
+    Map(Vec<(String, Json)>),
+}
+
+/// What a function's list has of its goals and places. The other parts name the contract's clauses, or repeat these.
+const PARTS: [&str; 6] = [
+    "needs",
+    "places",
+    "places_by_name",
+    "loops",
+    "arms",
+    "asked_at",
+];
+
+/// The lists of a crate's functions, by the folder of a function's proof and its name.
+pub struct Names(BTreeMap<(String, String), Vec<Json>>);
+
+/// Which name stands for which in a function's proof.
+pub type Renamed = BTreeMap<String, String>;
+
+impl Names {
+    /// Reads names.json of a crate.
+    pub fn read(krate: &str, text: &str) -> Option<Names> {
+        let Json::Map(all) = Reader::new(text).value()? else {
+            return None;
+        };
+        let begin = format!("Rattle-{krate}-proofs.");
+        let mut found = BTreeMap::new();
+        for (key, value) in all {
+            let (Some(path), Json::Map(parts)) = (key.strip_prefix(&begin), value) else {
+                continue;
+            };
+            let Some((folder, of)) = path.rsplit_once('.') else {
+                continue;
+            };
+            let last = folder.rsplit('.').next().unwrap_or(folder);
+            // of a cycle of calls each member has a list, beside one proof
+            let name = of.strip_prefix("Lts-").unwrap_or(last).to_string();
+            let part = |p: &&str| parts.iter().find(|(key, _)| key == p);
+            let parts: Vec<Json> = PARTS
+                .iter()
+                .filter_map(part)
+                .map(|(_, value)| value.clone())
+                .collect();
+            found.insert((folder.replace('.', "/"), name), parts);
+        }
+        Some(Names(found))
+    }
+
+    /// For each folder of a proof of which names are gone, what stands for them in the other program.
+    pub fn carried(&self, other: &Names) -> BTreeMap<String, Renamed> {
+        let mut all: BTreeMap<String, Renamed> = BTreeMap::new();
+        for ((folder, name), parts) in &self.0 {
+            let Some(others) = other.0.get(&(folder.clone(), name.clone())) else {
+                continue;
+            };
+            let renamed = renamed(parts, others);
+            if !renamed.is_empty() {
+                all.entry(folder.clone()).or_default().extend(renamed);
+            }
+        }
+        all
+    }
+
+    /// Whether the program of `self` has a goal of this function that `right` has not, under that name or the one that was carried over.
+    pub fn is_new(&self, right: &Names, function: &str, goal: &str) -> bool {
+        let lists = |names: &'_ Names| -> Vec<Vec<Json>> {
+            let of = names.0.iter().filter(|((_, name), _)| name == function);
+            of.map(|(_, parts)| parts.clone()).collect()
+        };
+        let goals = |parts: &[Vec<Json>]| -> BTreeSet<String> {
+            parts.iter().flat_map(|p| goals(p)).collect()
+        };
+        let (own, of_right) = (lists(self), lists(right));
+        let mut there = goals(&of_right);
+        for (right, own) in of_right.iter().zip(&own) {
+            there.extend(renamed(right, own).into_values());
+        }
+        let has = |set: &BTreeSet<String>| {
+            // a goal of several clauses is told clause by clause
+            let clause = |one: &String| goal.starts_with(&format!("{one}-clause-"));
+            set.contains(goal) || set.iter().any(clause)
+        };
+        has(&goals(&own)) && !has(&there)
+    }
+}
+
+/// Today's names of the goals: each stands behind the one that it had in older proofs.
+fn goals(parts: &[Json]) -> Vec<String> {
+    let Some(Json::List(needs)) = parts.first() else {
+        return Vec::new();
+    };
+    let name = |need: &Json| match need {
+        Json::List(pair) => match pair.last() {
+            Some(Json::Text(name)) => Some(name.clone()),
+            _ => None,
+        },
+        _ => None,
+    };
+    needs.iter().filter_map(name).collect()
+}
+
+/// What stands for the names that are gone, if the two have the same form.
+fn renamed(right: &[Json], wrong: &[Json]) -> Renamed {
+    let mut pairs = BTreeMap::new();
+    let same = right.len() == wrong.len()
+        && right
+            .iter()
+            .zip(wrong)
+            .all(|(a, b)| beside(a, b, &mut pairs));
+    if !same {
+        return Renamed::new();
+    }
+    let (mut before, mut after) = (BTreeSet::new(), BTreeSet::new());
+    right.iter().for_each(|value| texts(value, &mut before));
+    wrong.iter().for_each(|value| texts(value, &mut after));
+    pairs.retain(|old, new| !after.contains(old) && !before.contains(new));
+    pairs
+}
+
+/// Whether two values have one form, with the texts that stand in the place of each other.
+fn beside(a: &Json, b: &Json, pairs: &mut Renamed) -> bool {
+    match (a, b) {
+        (Json::Text(old), Json::Text(new)) => {
+            let other = (old != new).then(|| pairs.insert(old.clone(), new.clone()));
+            other.flatten().is_none_or(|before| before == *new)
+        }
+        (Json::List(xs), Json::List(ys)) => {
+            xs.len() == ys.len() && xs.iter().zip(ys).all(|(x, y)| beside(x, y, pairs))
+        }
+        (Json::Map(xs), Json::Map(ys)) => {
+            let same = |(x, y): (&(String, Json), &(String, Json))| x.0 == y.0;
+            xs.len() == ys.len()
+                && xs.iter().zip(ys).all(same)
+                && xs.iter().zip(ys).all(|(x, y)| beside(&x.1, &y.1, pairs))
+        }
+        _ => a == b,
+    }
+}
+
+fn texts(value: &Json, found: &mut BTreeSet<String>) {
+    match value {
+        Json::Text(text) => drop(found.insert(text.clone())),
+        Json::List(xs) => xs.iter().for_each(|x| texts(x, found)),
+        Json::Map(xs) => xs.iter().for_each(|(_, x)| texts(x, found)),
+        Json::Word(_) => {}
+    }
+}
+
+/// A proof with the names of the other program.
+pub fn carry(proof: &str, renamed: &Renamed) -> String {
+    let is_in_name = |c: char| c.is_alphanumeric() || "_-'".contains(c);
+    let (mut out, mut word) = (String::new(), String::new());
+    let put = |out: &mut String, word: &mut String| {
+        out.push_str(renamed.get(word.as_str()).unwrap_or(word));
+        word.clear();
+    };
+    for c in proof.chars() {
+        if is_in_name(c) {
+            word.push(c);
+        } else {
+            put(&mut out, &mut word);
+            out.push(c);
+        }
+    }
+    put(&mut out, &mut word);
+    out
+}
+
+/// Reads JSON, as Rattle writes it.
+struct Reader<'a> {
+    text: &'a [u8],
+    at: usize,
+}
+
+impl Reader<'_> {
+    fn new(text: &str) -> Reader<'_> {
+        let text = text.as_bytes();
+        Reader { text, at: 0 }
+    }
+
+    fn space(&mut self) {
+        while self
+            .text
+            .get(self.at)
+            .is_some_and(|c| c.is_ascii_whitespace())
+        {
+            self.at += 1;
+        }
+    }
+
+    fn take(&mut self, c: u8) -> bool {
+        self.space();
+        let there = self.text.get(self.at) == Some(&c);
+        self.at += usize::from(there);
+        there
+    }
+
+    fn value(&mut self) -> Option<Json> {
+        self.space();
+        match self.text.get(self.at)? {
+            b'"' => self.string().map(Json::Text),
+            b'[' => {
+                self.at += 1;
+                let mut all = Vec::new();
+                while !self.take(b']') {
+                    if !all.is_empty() && !self.take(b',') {
+                        return None;
+                    }
+                    all.push(self.value()?);
+                }
+                Some(Json::List(all))
+            }
+            b'{' => {
+                self.at += 1;
+                let mut all = Vec::new();
+                while !self.take(b'}') {
+                    if !all.is_empty() && !self.take(b',') {
+                        return None;
+                    }
+                    self.space();
+                    let key = self.string()?;
+                    if !self.take(b':') {
+                        return None;
+                    }
+                    all.push((key, self.value()?));
+                }
+                Some(Json::Map(all))
+            }
+            _ => {
+                let from = self.at;
+                let ends = |c: &u8| b",]}".contains(c) || c.is_ascii_whitespace();
+                while self.text.get(self.at).is_some_and(|c| !ends(c)) {
+                    self.at += 1;
+                }
+                let word = String::from_utf8_lossy(&self.text[from..self.at]).into_owned();
+                (!word.is_empty()).then_some(Json::Word(word))
+            }
+        }
+    }
+
+    fn string(&mut self) -> Option<String> {
+        if self.text.get(self.at) != Some(&b'"') {
+            return None;
+        }
+        self.at += 1;
+        let mut out = Vec::new();
+        loop {
+            match *self.text.get(self.at)? {
+                b'"' => break,
+                b'\\' => {
+                    self.at += 1;
+                    let c = match *self.text.get(self.at)? {
+                        b'u' => {
+                            let code = self.text.get(self.at + 1..self.at + 5)?;
+                            let code = u32::from_str_radix(std::str::from_utf8(code).ok()?, 16);
+                            self.at += 4;
+                            char::from_u32(code.ok()?).unwrap_or('?')
+                        }
+                        b'n' => '\n',
+                        b't' => '\t',
+                        c => char::from(c),
+                    };
+                    out.extend_from_slice(c.encode_utf8(&mut [0; 4]).as_bytes());
+                }
+                c => out.push(c),
+            }
+            self.at += 1;
+        }
+        self.at += 1;
+        String::from_utf8(out).ok()
+    }
+}
+
+#[cfg(test)]
+mod tests {
+    use super::*;
+
+    fn names(goal: &str, place: &str, more: &str) -> Names {
+        let list = format!(
+            "{{\"needs\": [[\"returns\", \"{goal}\"]{more}], \"places\": [[\"Start\", null], [\"Then1\", [\"if1\", \"{place}\"], []]], \"settled\": [\"s\"]}}"
+        );
+        let text = format!(
+            "{{\"Rattle-k-proofs.m.f.Lts\": {list}, \"Rattle-k-proofs.m.+g.Lts-g\": {list}, \"words:\": \"plain\"}}"
+        );
+        Names::read("k", &text).unwrap()
+    }
+
+    #[test]
+    fn a_proof_is_carried_to_new_names() {
+        let (right, wrong) = (
+            names("returns-then-a-lt7", "if-a-lt7", ""),
+            names("returns-then-a-lt8", "if-a-lt8", ""),
+        );
+        let all = right.carried(&wrong);
+        assert_eq!(all.keys().collect::<Vec<_>>(), ["m/+g", "m/f"]);
+        let proof = "returns-then-a-lt7 : goal.returns-then-a-lt7\nreturns-then-a-lt7 c = c.if-a-lt7.true\n";
+        assert_eq!(carry(proof, &all["m/f"]), proof.replace("lt7", "lt8"));
+        assert!(!wrong.is_new(&right, "f", "returns-then-a-lt8"));
+        assert!(!wrong.is_new(&right, "g", "returns-then-a-lt8-clause-one"));
+        assert!(right.carried(&right).is_empty());
+    }
+
+    #[test]
+    fn another_form_is_not_carried() {
+        let right = names("returns-then-a-lt7", "if-a-lt7", "");
+        let wrong = names("returns-then-a-lt8", "if-a-lt8", ", [\"add\", \"add\"]");
+        assert!(right.carried(&wrong).is_empty());
+        assert!(wrong.is_new(&right, "f", "add"));
+        assert!(!wrong.is_new(&right, "f", "absent"));
+    }
+
+    #[test]
+    fn names_that_change_places_stay() {
+        let one = names("a", "b", "");
+        let other = names("b", "a", "");
+        assert!(one.carried(&other).is_empty());
+    }
+
+    #[test]
+    fn json_is_read() {
+        let text = "{\"a\": [1, null, \"x\\\"\\u00e9\"], \"b\": {}}";
+        let read = Reader::new(text).value().unwrap();
+        let word = |s: &str| Json::Word(s.to_string());
+        let list = vec![word("1"), word("null"), Json::Text("x\"é".to_string())];
+        let pairs = [
+            ("a".to_string(), Json::List(list)),
+            ("b".to_string(), Json::Map(Vec::new())),
+        ];
+        assert_eq!(read, Json::Map(pairs.to_vec()));
+        assert_eq!(Reader::new("[1, ").value(), None);
+    }
+}
