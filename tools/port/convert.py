@@ -230,11 +230,17 @@ class Function:
         if cl and cl.get("fields"):
             fields = cl["fields"]
 
-            def named(m):
-                k = int(m[1])
-                return ".ensures." + fields[k] if k < len(fields) else m[0]
-
-            path = re.sub(r"^\.ensures\.(\d+)", named, path)
+            # clauses were joined in pairs: .1.0 is the second of three, .1.1 the third
+            parts = path.split(".")[1:]
+            if parts and parts[0] == "ensures" and len(fields) > 1:
+                k, rest = 0, parts[1:]
+                while k < len(fields) - 1 and rest and rest[0] == "1":
+                    k, rest = k + 1, rest[1:]
+                if k < len(fields) - 1 and rest and rest[0] == "0":
+                    rest = rest[1:]
+                    path = ".ensures." + fields[k] + "".join("." + r for r in rest)
+                elif k == len(fields) - 1:
+                    path = ".ensures." + fields[k] + "".join("." + r for r in rest)
         # older words for a test's two sides, and for what a `&mut` argument holds afterwards
         path = re.sub(r"^\.left(?![\w-])", ".false", re.sub(r"^\.taken(?![\w-])", ".true", re.sub(r"^\.last(?![\w-])", ".new", path)))
         params = self.n.get("params", {}).get(self.callee.get(place))
@@ -282,7 +288,7 @@ class Function:
         for name in dropped:
             body = re.sub(r"[ \t]*let " + re.escape(name) + r" = " + W + r"(?:\.before)*\s+in(?=\s) ?\n?", "", body)
         # aliases of steps: let X = c.before.loop in
-        for m in re.finditer(r"let (" + W + r") = (" + W + r")((?:\.before)*)\.(" + W + r") in", body):
+        for m in re.finditer(r"let (" + W + r") = (" + W + r")((?:\.before)*)\.(" + W + r")\s+in(?=\s)", body):
             if m[2] in aliases:
                 p = self.step_at(place, self.walk(aliases[m[2]], m[3].count(".before")), m[4])
                 if p is not None:

@@ -8,14 +8,14 @@
 
 mod list;
 
-ghost use Rattle.std.specs.Prelude.{◌≤◌};
+ghost use Rattle.std.specs.Prelude.{◌≤◌, length, IfOk};
 
 use case_list::{after, put};
 use image::{IMAGE_MOST, LoadAnswer, least, load};
-use libc::STDOUT_FILENO;
 use line_digits::{hex, line_end};
 use list::{answer_mark, image_end};
 use load_answers::refusal_number;
+use std::io::{Read, Result};
 use std::num::wrapping_add_u64;
 
 #[derive(Clone, Copy)]
@@ -132,14 +132,12 @@ fn listed_answer(given: &[u8], out: &mut [u8]) -> usize {
 }
 
 // Says where `load` and the list differ.
-fn differs(case: u64, answered: &[u8], listed: &[u8]) {
-    io::write_all(STDOUT_FILENO, b"case ");
-    io::print_decimal(STDOUT_FILENO, case);
-    io::write_all(STDOUT_FILENO, b": load answers ");
-    io::write_all(STDOUT_FILENO, answered);
-    io::write_all(STDOUT_FILENO, b", the list says ");
-    io::write_all(STDOUT_FILENO, listed);
-    io::write_all(STDOUT_FILENO, b"\n");
+fn differs(rt: &impl Print, case: u64, answered: &[u8], listed: &[u8]) -> Result<()> {
+    print!(rt; "case {case}: load answers ")?;
+    rt.write_all(answered)?;
+    rt.write_all(b", the list says ")?;
+    rt.write_all(listed)?;
+    rt.write_all(b"\n")
 }
 
 fn one_malformed(t: Tally) -> Tally {
@@ -151,46 +149,46 @@ fn one_malformed(t: Tally) -> Tally {
 }
 
 // The first n bytes of `text`, the answer, beside the line of the list's.
-fn compare(t: Tally, line: &[u8], text: &[u8], n: usize) -> Tally {
+fn compare(rt: &impl Print, t: Tally, line: &[u8], text: &[u8], n: usize) -> Result<Tally> {
     let cases = wrapping_add_u64(t.cases, 1);
     if n == 0 {
-        return one_malformed(t);
+        return Ok(one_malformed(t));
     }
     if text.len() < n {
-        return one_malformed(t);
+        return Ok(one_malformed(t));
     }
     if line.len() < 3 {
-        return one_malformed(t);
+        return Ok(one_malformed(t));
     }
     if well_formed(line) {
         let listed = &line[2..];
         let answered = &text[..n];
         if check::same(listed, answered) {
-            return Tally {
+            return Ok(Tally {
                 cases,
                 agree: wrapping_add_u64(t.agree, 1),
                 malformed: t.malformed,
-            };
+            });
         }
-        differs(cases, answered, listed);
-        return Tally {
+        differs(rt, cases, answered, listed)?;
+        return Ok(Tally {
             cases,
             agree: t.agree,
             malformed: t.malformed,
-        };
+        });
     }
-    one_malformed(t)
+    Ok(one_malformed(t))
 }
 
 // One case: the image as given, and the line of its answer.
-fn judge(t: Tally, given: &[u8], line: &[u8]) -> Tally {
+fn judge(rt: &impl Print, t: Tally, given: &[u8], line: &[u8]) -> Result<Tally> {
     let mut text = [0u8; 64];
     let n = listed_answer(given, &mut text);
-    compare(t, line, &text, n)
+    compare(rt, t, line, &text, n)
 }
 
 // All cases of the list; what stands after the last answer is one malformed case.
-fn replay(list: &[u8]) -> Tally {
+fn replay(rt: &impl Print, list: &[u8]) -> Result<Tally> {
     let mut t = Tally {
         cases: 0,
         agree: 0,
@@ -204,15 +202,15 @@ fn replay(list: &[u8]) -> Tally {
         let next = after(end, list.len());
         if mark != 0 {
             let to = image_end(mark, from, at);
-            t = judge(t, &list[from..to], &list[at..end]);
+            t = judge(rt, t, &list[from..to], &list[at..end])?;
             from = next;
         }
         at = next;
     }
     if from < list.len() {
-        return one_malformed(t);
+        return Ok(one_malformed(t));
     }
-    t
+    Ok(t)
 }
 
 // 1 where `load` says that a work slice is too short.
@@ -254,26 +252,40 @@ fn short_slices() -> u64 {
     )
 }
 
-fn print_count(what: &[u8], n: u64) {
-    io::write_all(STDOUT_FILENO, what);
-    io::print_decimal(STDOUT_FILENO, n);
-    io::write_all(STDOUT_FILENO, b"\n");
+fn print_count(rt: &impl Print, what: &str, n: u64) -> Result<()> {
+    println!(rt; "{what} {n}")
 }
 
 // The images that are too long for a list: line feeds, one more than an image may have, and as many as it may have.
-fn by_rule(t: Tally) -> Tally {
+fn by_rule(rt: &impl Print, t: Tally) -> Result<Tally> {
     let long = [10u8; IMAGE_MOST + 1];
-    let t = judge(t, &long, b"= refused 1 0");
+    let t = judge(rt, t, &long, b"= refused 1 0")?;
     let whole = [10u8; IMAGE_MOST];
-    judge(t, &whole, b"= refused 2 1")
+    judge(rt, t, &whole, b"= refused 2 1")
 }
 
-fn main() {
+// Reads the list until `list` is full or the input ends, and answers how many bytes it has.
+fn read_full(input: &mut impl Read, list: &mut [u8]) -> Result<usize>
+    ensures { IfOk result (λ n. n ≤ length list.new) }
+{
+    let mut at = 0;
+    while at < list.len() {
+        let n = input.read(&mut list[at..])?;
+        if n == 0 {
+            return Ok(at);
+        }
+        at += n;
+    }
+    Ok(at)
+}
+
+fn main(rt: HostRuntime) -> Result<()> {
     let mut list = [0u8; 524288];
-    let n = io::read_full(0, &mut list);
-    let t = by_rule(replay(&list[..n]));
-    print_count(b"cases ", t.cases);
-    print_count(b"agree ", t.agree);
-    print_count(b"malformed ", t.malformed);
-    print_count(b"short slices ", short_slices());
+    let n = read_full(&mut rt.stdin(), &mut list)?;
+    let t = replay(&rt, &list[..n])?;
+    let t = by_rule(&rt, t)?;
+    print_count(&rt, "cases", t.cases)?;
+    print_count(&rt, "agree", t.agree)?;
+    print_count(&rt, "malformed", t.malformed)?;
+    print_count(&rt, "short slices", short_slices())
 }

@@ -1,4 +1,4 @@
--- One case for each flow: the four numbers that `effect` promises are those of `flowEffect`.
+-- One case for each flow: the four numbers that `effect` promises are those of `flow_effect`.
 
 use mathlib.Core.Path.{◌∙◌, sym, ap}
 use Rattle.stack_check.specs.Node.{flow_effect}

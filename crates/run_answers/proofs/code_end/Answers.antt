@@ -1,0 +1,40 @@
+-- Three ways: a value that `code_value` codes, one too long for the slice, and a stop, which leaves the slice as it is.
+
+use Rattle.run_answers.proofs.Running.{value_held, value_ends, long_ends, stop_ends, ended_as}
+use Rattle.run_answers.proofs.code_end.Goals as goal
+
+pub code_value-requires : goal.code_value-requires
+code_value-requires c =
+    let args = c.args in
+    let pre = c.requires in
+    value_held args.end args.cells.now _ _ _ c.in-Value.is pre
+
+pub shape_of-res-in-Bytes : goal.shape_of-res-in-Bytes
+shape_of-res-in-Bytes c =
+    let code_value = c.code_value in
+    code_value.auto.out
+
+pub returns-in-Bytes : goal.returns-in-Bytes
+returns-in-Bytes c =
+    let code_value = c.code_value in
+    let args = c.args in
+    ended_as args.end _ args.cells.now args.res.now code_value.new.out _ c.in-Value.is (value_ends args.cells.now
+    args.res.now code_value.new.out _ _ _ code_value.result _ c.in-Bytes.is code_value.ensures)
+
+pub shape_of-res-in-TooLong : goal.shape_of-res-in-TooLong
+shape_of-res-in-TooLong c =
+    let code_value = c.code_value in
+    code_value.auto.out
+
+pub returns-in-TooLong : goal.returns-in-TooLong
+returns-in-TooLong c =
+    let code_value = c.code_value in
+    let args = c.args in
+    ended_as args.end _ args.cells.now args.res.now code_value.new.out _ c.in-Value.is (long_ends args.cells.now args.res.now
+    code_value.new.out _ _ _ code_value.result c.in-TooLong.is code_value.ensures)
+
+pub returns-in-Stop : goal.returns-in-Stop
+returns-in-Stop c =
+    let args = c.args in
+    ended_as args.end _ args.cells.now args.res.now args.res.now _ c.in-Stop.is (stop_ends args.cells.now
+    args.res.now _ _ _ _)
