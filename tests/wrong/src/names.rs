@@ -2,8 +2,8 @@
 //! wrong program.
 //!
 //! A goal is named for its place in the code: behind `if w > 7` stands `returns-then-w-gt7`. So a wrong number renames goals, and a proof by the old names
-//! says nothing of the new ones. Where the wrong program has the same goals and places in the same order, the tool writes the new names into the function's
-//! proof. What is then refused is a fact, and not a name.
+//! says nothing of the new ones. Where the wrong program has the same places in the same order, the tool writes the new names into the function's proof.
+//! What is then refused is a fact, and not a name.
 
 use std::collections::{BTreeMap, BTreeSet};
 
@@ -16,18 +16,19 @@ enum Json {
     Map(Vec<(String, Json)>),
 }
 
-/// What a function's list has of its goals and places. The other parts name the contract's clauses, or repeat these.
-const PARTS: [&str; 6] = [
-    "needs",
-    "places",
-    "places_by_name",
-    "loops",
-    "arms",
-    "asked_at",
-];
+/// What a function's list has of its places, which is its form. The other parts name the contract's clauses, or repeat these.
+const PLACES: [&str; 4] = ["places", "places_by_name", "loops", "arms"];
 
 /// The lists of a crate's functions, by the folder of a function's proof and its name.
-pub struct Names(BTreeMap<(String, String), Vec<Json>>);
+pub struct Names(BTreeMap<(String, String), Function>);
+
+struct Function {
+    places: Vec<Json>,
+    /// Each goal, under the name that it has in older proofs, and its name.
+    goals: Vec<(String, String)>,
+    /// The goals that need no proof.
+    settled: BTreeSet<String>,
+}
 
 /// Which name stands for which in a function's proof.
 pub type Renamed = BTreeMap<String, String>;
@@ -50,13 +51,7 @@ impl Names {
             let last = folder.rsplit('.').next().unwrap_or(folder);
             // of a cycle of calls each member has a list, beside one proof
             let name = of.strip_prefix("Lts-").unwrap_or(last).to_string();
-            let part = |p: &&str| parts.iter().find(|(key, _)| key == p);
-            let parts: Vec<Json> = PARTS
-                .iter()
-                .filter_map(part)
-                .map(|(_, value)| value.clone())
-                .collect();
-            found.insert((folder.replace('.', "/"), name), parts);
+            found.insert((folder.replace('.', "/"), name), Function::of(&parts));
         }
         Some(Names(found))
     }
@@ -64,13 +59,11 @@ impl Names {
     /// For each folder of a proof of which names are gone, what stands for them in the other program.
     pub fn carried(&self, other: &Names) -> BTreeMap<String, Renamed> {
         let mut all: BTreeMap<String, Renamed> = BTreeMap::new();
-        for ((folder, name), parts) in &self.0 {
-            let Some(others) = other.0.get(&(folder.clone(), name.clone())) else {
-                continue;
-            };
-            let renamed = renamed(parts, others);
+        for (key, function) in &self.0 {
+            let renamed = other.0.get(key).map(|wrong| function.renamed(wrong));
+            let renamed = renamed.unwrap_or_default();
             if !renamed.is_empty() {
-                all.entry(folder.clone()).or_default().extend(renamed);
+                all.entry(key.0.clone()).or_default().extend(renamed);
             }
         }
         all
@@ -78,58 +71,69 @@ impl Names {
 
     /// Whether the program of `self` has a goal of this function that `right` has not, under that name or the one that was carried over.
     pub fn is_new(&self, right: &Names, function: &str, goal: &str) -> bool {
-        let lists = |names: &'_ Names| -> Vec<Vec<Json>> {
-            let of = names.0.iter().filter(|((_, name), _)| name == function);
-            of.map(|(_, parts)| parts.clone()).collect()
-        };
-        let goals = |parts: &[Vec<Json>]| -> BTreeSet<String> {
-            parts.iter().flat_map(|p| goals(p)).collect()
-        };
-        let (own, of_right) = (lists(self), lists(right));
-        let mut there = goals(&of_right);
-        for (right, own) in of_right.iter().zip(&own) {
-            there.extend(renamed(right, own).into_values());
-        }
-        let has = |set: &BTreeSet<String>| {
-            // a goal of several clauses is told clause by clause
-            let clause = |one: &String| goal.starts_with(&format!("{one}-clause-"));
-            set.contains(goal) || set.iter().any(clause)
-        };
-        has(&goals(&own)) && !has(&there)
+        // a goal of several clauses is told clause by clause
+        let is = |one: &String| goal == one || goal.starts_with(&format!("{one}-clause-"));
+        let of_it = self.0.iter().filter(|((_, name), _)| name == function);
+        of_it.into_iter().any(|(key, wrong)| {
+            let there = |right: &Function| {
+                let mut named = right.goals.iter().map(|(_, goal)| goal);
+                named.any(is)
+                    || right.settled.iter().any(is)
+                    || right.renamed(wrong).values().any(is)
+            };
+            let mut own = wrong.goals.iter().map(|(_, goal)| goal);
+            own.any(is) && !right.0.get(key).is_some_and(there)
+        })
     }
 }
 
-/// Today's names of the goals: each stands behind the one that it had in older proofs.
-fn goals(parts: &[Json]) -> Vec<String> {
-    let Some(Json::List(needs)) = parts.first() else {
-        return Vec::new();
-    };
-    let name = |need: &Json| match need {
-        Json::List(pair) => match pair.last() {
-            Some(Json::Text(name)) => Some(name.clone()),
+impl Function {
+    fn of(parts: &[(String, Json)]) -> Function {
+        let part = |p: &str| parts.iter().find(|(key, _)| key == p).map(|(_, v)| v);
+        let list = |p: &str| match part(p) {
+            Some(Json::List(all)) => all.clone(),
+            _ => Vec::new(),
+        };
+        let text = |value: &Json| match value {
+            Json::Text(text) => Some(text.clone()),
             _ => None,
-        },
-        _ => None,
-    };
-    needs.iter().filter_map(name).collect()
-}
-
-/// What stands for the names that are gone, if the two have the same form.
-fn renamed(right: &[Json], wrong: &[Json]) -> Renamed {
-    let mut pairs = BTreeMap::new();
-    let same = right.len() == wrong.len()
-        && right
-            .iter()
-            .zip(wrong)
-            .all(|(a, b)| beside(a, b, &mut pairs));
-    if !same {
-        return Renamed::new();
+        };
+        let pair = |value: &Json| match value {
+            Json::List(two) => Some((text(two.first()?)?, text(two.last()?)?)),
+            _ => None,
+        };
+        Function {
+            places: PLACES.iter().filter_map(|p| part(p)).cloned().collect(),
+            goals: list("needs").iter().filter_map(pair).collect(),
+            settled: list("settled").iter().filter_map(text).collect(),
+        }
     }
-    let (mut before, mut after) = (BTreeSet::new(), BTreeSet::new());
-    right.iter().for_each(|value| texts(value, &mut before));
-    wrong.iter().for_each(|value| texts(value, &mut after));
-    pairs.retain(|old, new| !after.contains(old) && !before.contains(new));
-    pairs
+
+    /// What stands in the wrong program for the names that are gone, if the two have the same places.
+    fn renamed(&self, wrong: &Function) -> Renamed {
+        let mut pairs = Renamed::new();
+        let mut both = self.places.iter().zip(&wrong.places);
+        if self.places.len() != wrong.places.len() || !both.all(|(a, b)| beside(a, b, &mut pairs)) {
+            return Renamed::new();
+        }
+        let sort = |goal: &str| goal.split('-').next().map(str::to_string);
+        for (old, goal) in &self.goals {
+            let same = |(other, new): &&(String, String)| other == old && sort(new) == sort(goal);
+            if let Some((_, new)) = wrong.goals.iter().find(same) {
+                pairs.insert(goal.clone(), new.clone());
+            }
+        }
+        let (before, after) = (self.names(), wrong.names());
+        pairs.retain(|old, new| !after.contains(old) && !before.contains(new));
+        pairs
+    }
+
+    fn names(&self) -> BTreeSet<String> {
+        let mut all = self.settled.clone();
+        all.extend(self.goals.iter().map(|(_, goal)| goal.clone()));
+        self.places.iter().for_each(|place| texts(place, &mut all));
+        all
+    }
 }
 
 /// Whether two values have one form, with the texts that stand in the place of each other.
@@ -290,9 +294,14 @@ impl Reader<'_> {
 mod tests {
     use super::*;
 
-    fn names(goal: &str, place: &str, more: &str) -> Names {
+    fn names(goals: &[[&str; 2]], place: &str) -> Names {
+        let goals: Vec<String> = goals
+            .iter()
+            .map(|[old, new]| format!("[\"{old}\", \"{new}\"]"))
+            .collect();
         let list = format!(
-            "{{\"needs\": [[\"returns\", \"{goal}\"]{more}], \"places\": [[\"Start\", null], [\"Then1\", [\"if1\", \"{place}\"], []]], \"settled\": [\"s\"]}}"
+            "{{\"needs\": [{}], \"places\": [[\"Start\", null], [\"Then1\", [\"if1\", \"{place}\"], []]], \"settled\": [\"s\"]}}",
+            goals.join(", ")
         );
         let text = format!(
             "{{\"Rattle-k-proofs.m.f.Lts\": {list}, \"Rattle-k-proofs.m.+g.Lts-g\": {list}, \"words:\": \"plain\"}}"
@@ -302,9 +311,14 @@ mod tests {
 
     #[test]
     fn a_proof_is_carried_to_new_names() {
-        let (right, wrong) = (
-            names("returns-then-a-lt7", "if-a-lt7", ""),
-            names("returns-then-a-lt8", "if-a-lt8", ""),
+        let right = names(&[["returns", "returns-then-a-lt7"]], "if-a-lt7");
+        let wrong = names(
+            &[
+                ["add", "overflow_add"],
+                ["settled", "s"],
+                ["returns", "returns-then-a-lt8"],
+            ],
+            "if-a-lt8",
         );
         let all = right.carried(&wrong);
         assert_eq!(all.keys().collect::<Vec<_>>(), ["m/+g", "m/f"]);
@@ -312,22 +326,24 @@ mod tests {
         assert_eq!(carry(proof, &all["m/f"]), proof.replace("lt7", "lt8"));
         assert!(!wrong.is_new(&right, "f", "returns-then-a-lt8"));
         assert!(!wrong.is_new(&right, "g", "returns-then-a-lt8-clause-one"));
+        assert!(!wrong.is_new(&right, "f", "s"));
+        assert!(wrong.is_new(&right, "f", "overflow_add"));
+        assert!(!wrong.is_new(&right, "f", "absent"));
         assert!(right.carried(&right).is_empty());
     }
 
     #[test]
     fn another_form_is_not_carried() {
-        let right = names("returns-then-a-lt7", "if-a-lt7", "");
-        let wrong = names("returns-then-a-lt8", "if-a-lt8", ", [\"add\", \"add\"]");
+        let right = names(&[["returns", "returns-then-a-lt7"]], "if-a-lt7");
+        let wrong = names(&[["returns", "returns-then-a-lt8"]], "a\", \"b");
         assert!(right.carried(&wrong).is_empty());
-        assert!(wrong.is_new(&right, "f", "add"));
-        assert!(!wrong.is_new(&right, "f", "absent"));
+        assert!(wrong.is_new(&right, "f", "returns-then-a-lt8"));
     }
 
     #[test]
     fn names_that_change_places_stay() {
-        let one = names("a", "b", "");
-        let other = names("b", "a", "");
+        let one = names(&[["returns", "a"]], "b");
+        let other = names(&[["returns", "b"]], "a");
         assert!(one.carried(&other).is_empty());
     }
 

@@ -163,14 +163,14 @@ mod tests {
         let of = |path: &str| {
             (
                 format!("proofs/m/{path}/Answers.antt"),
-                "a7 c = b".to_string(),
+                "returns-a7 c = b".to_string(),
             )
         };
         let files = carried(
             &Files::from([of("f"), of("g")]),
-            (&names("a7"), &names("a8")),
+            (&names("returns-a7"), &names("returns-a8")),
         );
-        assert_eq!(files["proofs/m/f/Answers.antt"], "a8 c = b");
-        assert_eq!(files["proofs/m/g/Answers.antt"], "a7 c = b");
+        assert_eq!(files["proofs/m/f/Answers.antt"], "returns-a8 c = b");
+        assert_eq!(files["proofs/m/g/Answers.antt"], "returns-a7 c = b");
     }
 }
