@@ -205,10 +205,3 @@ hex_next out₀ out bytes at i to x y h g e f p =
 -- all bytes
 pub hex_put : (out₀ out bytes : List ℕ) (at i to : ℕ) → i ≡ length bytes → Puts out₀ at (hex (take i bytes)) out to → Puts out₀ at (hex bytes) out to
 hex_put out₀ out bytes at i to e p = subst (λ (l : List ℕ). Puts out₀ at (hex l) out to) (ap (λ (n : ℕ). take n bytes) e ∙ take-length bytes) p
-
--- a digit below 16
-pub low_hex : (n : ℕ) → n < 10 → 48 + n ≡ hex_digit n
-low_hex n h = rw (lt-ltb n 10 h)
-
-pub high_hex : (n : ℕ) → 10 ≤ n → 55 + n ≡ hex_digit n
-high_hex n h = rw (le-ltb n 10 h)

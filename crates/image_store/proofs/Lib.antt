@@ -1,2 +1,0 @@
--- One file: what a record leaves in the work slices.
-pub mod Stored
