@@ -484,7 +484,7 @@ def convert(path, names, module, crate):
         sep = "" if body.startswith("\n") else " "
         answers.append((k, comment, f"pub {new} : goal.{new}", unfolding, f"{lhs} ={sep}{body}"))
     used.add(last["name"])
-    helpers = [it for it in items[:-1] if it["name"] not in used or it["name"] is None]
+    helpers = [it for it in items[:-1] if (it["name"] not in used or it["name"] is None) and not re.search(r": tie\.Need-", it["sig"])]
     folder = os.path.dirname(path)
     keep_imports = [i for i in imports if not re.match(r"use Rattle\." + crate + r"\.proofs\." + re.escape(module) + r"\.(Statement|Tie)\b", i) and not i.startswith("use borrow.Author.Rules.")]
     needs_rules = any("rules" in x[4] for x in answers) or any("rules" in "\n".join(h["clauses"]) for h in helpers)
