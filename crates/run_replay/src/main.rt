@@ -5,12 +5,12 @@
 // answer, are counted as malformed. The list is made by tests/stored, which says where its answers come from.
 #![tactic(auto)]
 
-ghost use Rattle.std.specs.Prelude.{◌≤◌, length};
+ghost use Rattle.std.specs.Prelude.{◌≤◌, length, IfOk};
 
 use case_list::{after, put};
-use libc::STDOUT_FILENO;
 use line_digits::line_end;
 use rl_vm::{RunAnswer, least, refusal_number, run, stop_number};
+use std::io::{Read, Result};
 use std::num::{wrapping_add_u64, wrapping_add_usize};
 
 #[derive(Clone, Copy)]
@@ -257,23 +257,21 @@ fn runs_within(
     false
 }
 
-fn counted(t: Tally, agrees: bool) -> Tally {
+fn counted(rt: &impl Print, t: Tally, agrees: bool) -> Result<Tally> {
     let cases = wrapping_add_u64(t.cases, 1);
     if agrees {
-        return Tally {
+        return Ok(Tally {
             cases,
             agree: wrapping_add_u64(t.agree, 1),
             malformed: t.malformed,
-        };
+        });
     }
-    io::write_all(STDOUT_FILENO, b"differs: case ");
-    io::print_decimal(STDOUT_FILENO, cases);
-    io::write_all(STDOUT_FILENO, b"\n");
-    Tally {
+    println!(rt; "differs: case {cases}")?;
+    Ok(Tally {
         cases,
         agree: t.agree,
         malformed: t.malformed,
-    }
+    })
 }
 
 fn one_malformed(t: Tally) -> Tally {
@@ -285,23 +283,23 @@ fn one_malformed(t: Tally) -> Tally {
 }
 
 // One case: the image, and the line of its answer.
-fn judge(t: Tally, image: &[u8], line: &[u8]) -> Tally {
+fn judge(rt: &impl Print, t: Tally, image: &[u8], line: &[u8]) -> Result<Tally> {
     let budget = number(line, 2);
     let room = number(line, budget.next);
     let from = room.next;
     let mut result = [0u8; MOST_ROOM];
     if result.len() < room.value {
-        return one_malformed(t);
+        return Ok(one_malformed(t));
     }
     if line.len() <= from {
-        return one_malformed(t);
+        return Ok(one_malformed(t));
     }
     let same = runs_within(image, budget.value, &mut result, room.value, line, from);
-    counted(t, same)
+    counted(rt, t, same)
 }
 
 // All cases of the list; what stands after the last answer is one malformed case.
-fn replay(list: &[u8]) -> Tally {
+fn replay(rt: &impl Print, list: &[u8]) -> Result<Tally> {
     let mut t = Tally {
         cases: 0,
         agree: 0,
@@ -313,28 +311,42 @@ fn replay(list: &[u8]) -> Tally {
         let end = line_end(list, at);
         let next = after(end, list.len());
         if list[at] == b'=' {
-            t = judge(t, &list[from..at], &list[at..end]);
+            t = judge(rt, t, &list[from..at], &list[at..end])?;
             from = next;
         }
         at = next;
     }
     if from < list.len() {
-        return one_malformed(t);
+        return Ok(one_malformed(t));
     }
-    t
+    Ok(t)
 }
 
-fn print_count(what: &[u8], n: u64) {
-    io::write_all(STDOUT_FILENO, what);
-    io::print_decimal(STDOUT_FILENO, n);
-    io::write_all(STDOUT_FILENO, b"\n");
+fn print_count(rt: &impl Print, what: &str, n: u64) -> Result<()> {
+    println!(rt; "{what} {n}")
 }
 
-fn main() {
+// Reads the list until `list` is full or the input ends, and answers how many bytes it has.
+fn read_full(input: &mut impl Read, list: &mut [u8]) -> Result<usize>
+    ensures { IfOk result (λ n. n ≤ length list.new) }
+{
+    let mut at = 0;
+    while at < list.len() {
+        let n = input.read(&mut list[at..])?;
+        if n == 0 {
+            return Ok(at);
+        }
+        at += n;
+    }
+    Ok(at)
+}
+
+// A read or a write that fails ends the run with its error.
+fn main(rt: HostRuntime) -> Result<()> {
     let mut list = [0u8; 524288];
-    let n = io::read_full(0, &mut list);
-    let t = replay(&list[..n]);
-    print_count(b"cases ", t.cases);
-    print_count(b"agree ", t.agree);
-    print_count(b"malformed ", t.malformed);
+    let n = read_full(&mut rt.stdin(), &mut list)?;
+    let t = replay(&rt, &list[..n])?;
+    print_count(&rt, "cases", t.cases)?;
+    print_count(&rt, "agree", t.agree)?;
+    print_count(&rt, "malformed", t.malformed)
 }
