@@ -116,7 +116,7 @@ each_passes (b ∷ bs) ms t = (
   each_passes bs (drop 1 ms) (both_right (loaded_test (load_image b) (get_or ms 0 [])) (each_test bs (drop 1 ms)) t),
 )
 
--- ---- The heights and depths of the images of `passingImages`, chunk by chunk
+-- ---- The heights and depths of the images of `passing_images`, chunk by chunk
 unfoldable heights : List (List (List Mark))
 heights =
     (

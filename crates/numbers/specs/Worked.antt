@@ -45,7 +45,7 @@ Row = Operation × Outcome
 -- "Int max + 1, 37; Int min / 0, 38; Int min / -1, 37; Negate SByte -128, -128; Float 10^19 to Int, -8446744073709551616; NaN to Int, 0;
 -- Float 2^127 to Int, -1; Float -0.5 to UInt, 0; Int 255 to Byte, 255; Int 256 to Byte, 42; Int 1152921573326323713 to SFloat, 2^60;
 -- UInt 1 to Int, 42", of which two change: "The proved value for UInt 1 to Int becomes 1" (document 02, E1), "The proved value for SByte -128 becomes
--- 37" (document 02, E5). `negsuc n` is -(n + 1); `fin s m e` is the float m * 2^e, and `ten-19` below shows that the fifth row's is 10^19.
+-- 37" (document 02, E5). `negsuc n` is -(n + 1); `fin s m e` is the float m * 2^e, and `ten_19` below shows that the fifth row's is 10^19.
 -- Behind them, where a UInt has no Int of its value: "Integer targets take the exact value; target 0 keeps the low 64 bits as a signed number; others
 -- are 42 out of range. Float targets round as for Int" (document 02, E1). One rounding would make the fifth of these 2^63 + 2^40.
 -- Last, at the ends of the range: "like any other result out of range" (document 02, E5).

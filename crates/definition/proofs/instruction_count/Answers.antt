@@ -1,4 +1,4 @@
--- `opCodes` unfolds to a list of 38; what the contract says of the definition besides is `proved`.
+-- `op_codes` unfolds to a list of 38; what the contract says of the definition besides is `proved`.
 
 use mathlib.Core.Path.{refl}
 use Rattle.definition.specs.Table.{op_codes}

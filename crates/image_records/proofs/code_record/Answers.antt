@@ -1,4 +1,4 @@
--- What `code_line` promises is `code_of`, once what `takes_code` answers is rewritten to `takesCode`.
+-- What `code_line` promises is `code_of`, once what `takes_code` answers is rewritten to `takes_code`.
 
 use mathlib.Core.Path.{◌∙◌}
 use Rattle.definition.specs.Lines.{code_of}

@@ -1,4 +1,4 @@
--- One case for each tag: the tests so far compute `recordOf` to that tag's rule, which the function called promises.
+-- One case for each tag: the tests so far compute `record_of` to that tag's rule, which the function called promises.
 
 use borrow.Author.Tests.{eq-eqb, ne_eqb}
 use Rattle.definition.specs.Lines.{record_of}

@@ -1,4 +1,4 @@
--- One case for each order: places are in the order of their numbers, by `less-is`.
+-- One case for each order: places are in the order of their numbers, by `less_is`.
 
 use borrow.Author.Tests.{lt-ltb, le-ltb}
 use mathlib.Core.Path.{◌∙◌}

@@ -1,4 +1,4 @@
--- With q at most p the difference is in range, by `wide_value`; else it is below 0, by `wide-less`.
+-- With q at most p the difference is in range, by `wide_value`; else it is below 0, by `wide_less`.
 
 use native.Mathlib.Omega.{arith}
 use mathlib.Core.Path.{◌∙◌, ap}

@@ -1,4 +1,4 @@
--- One case for each slice, the ones tested before it long enough: the tests so far compute `anyShort`.
+-- One case for each slice, the ones tested before it long enough: the tests so far compute `any_short`.
 
 use Rattle.run_answers.proofs.Running.{short_texts, short_classes, short_stack, short_locals, short_starts, short_globals, short_cells, short_memo}
 use Rattle.run_answers.proofs.any_short.Goals as goal

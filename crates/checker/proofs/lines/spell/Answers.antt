@@ -1,4 +1,4 @@
--- One case for each answer of `check`: what is put is `checkerLine` of it, as the number put is that of its reason.
+-- One case for each answer of `check`: what is put is `checker_line` of it, as the number put is that of its reason.
 
 use Rattle.checker.proofs.Spelling.{refused_line, pass_line, fault_line}
 use Rattle.checker.proofs.lines.spell.Goals as goal

@@ -1,4 +1,4 @@
--- One case for each answer: `runCount` computes to 0 for a refusal, to the count for a value and for a stop.
+-- One case for each answer: `run_count` computes to 0 for a refusal, to the count for a value and for a stop.
 
 use mathlib.Core.Path.{ap, sym}
 use Rattle.run_answers.specs.Numbers.{run_count}

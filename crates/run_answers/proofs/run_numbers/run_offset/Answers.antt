@@ -1,4 +1,4 @@
--- One case for each answer: `runOffset` computes to 0 for a refusal and for a value, to the offset for a stop.
+-- One case for each answer: `run_offset` computes to 0 for a refusal and for a value, to the offset for a stop.
 
 use mathlib.Core.Path.{ap, sym}
 use Rattle.run_answers.specs.Numbers.{run_offset}

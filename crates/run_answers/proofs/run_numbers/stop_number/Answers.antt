@@ -1,4 +1,4 @@
--- One case for each reason: `reasonNumber` computes to the number answered.
+-- One case for each reason: `reason_number` computes to the number answered.
 
 use mathlib.Core.Path.{ap, sym}
 use Rattle.vm_acts.specs.Reasons.{reason_number}

@@ -1,4 +1,4 @@
--- One case for each answer of `run`: what is put is `answerLine` of it, as the number put is that of its reason.
+-- One case for each answer of `run`: what is put is `answer_line` of it, as the number put is that of its reason.
 
 use Rattle.runner.proofs.Spelling.{refused_line, value_line, stopped_line, size_fits, value_asks}
 use native.Mathlib.Omega.{arith}

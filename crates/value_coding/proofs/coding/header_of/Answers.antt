@@ -1,4 +1,4 @@
--- The kind, the size and the word are those of `headerOf`, each by the function that gives it.
+-- The kind, the size and the word are those of `header_of`, each by the function that gives it.
 
 use mathlib.Core.Path.{◌∙◌}
 use Rattle.values.specs.Flat.{head_of}

@@ -1,5 +1,5 @@
 -- Each turn gives one number its class: each entry below c is the first chunk that is the same function, which makes classes by
--- `chunk-tables`; the entries left fall.
+-- `chunk_tables`; the entries left fall.
 
 use mathlib.Core.Path.{◌≡◌}
 use Prim.Native.Nat.{ℕ, ◌-◌, ◌≤◌, ◌<◌}

@@ -1,4 +1,4 @@
--- The bytes before i are equal in both parts: a byte that differs tells the parts apart (`part-other`), and past the last the parts are equal
+-- The bytes before i are equal in both parts: a byte that differs tells the parts apart (`part_other`), and past the last the parts are equal
 -- (`part_same`).
 
 use mathlib.Core.Path.{◌≡◌}

@@ -1,5 +1,5 @@
--- The answer decides `SameChunk`: names of two classes tell the chunks apart (`other-chunk`), and where the class is one the arities decide
--- (`chunk-decides`).
+-- The answer decides `SameChunk`: names of two classes tell the chunks apart (`other_chunk`), and where the class is one the arities decide
+-- (`chunk_decides`).
 
 use Rattle.value_equality.specs.Classes.{class_of}
 use mathlib.Core.Path.{ap, ◌∙◌}

@@ -1,5 +1,5 @@
 -- The answer decides `SameText`: by the lengths where they differ, as two empty texts where both are 0, and else by the bytes: a text that is not
--- empty is one of the n (`named`) and lies within the bytes (`text-room`).
+-- empty is one of the n (`named`) and lies within the bytes (`text_room`).
 
 use mathlib.Core.Path.{◌≡◌, sym, ◌∙◌, subst}
 use native.Mathlib.Omega.{arith}

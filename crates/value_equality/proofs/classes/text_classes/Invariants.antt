@@ -1,5 +1,5 @@
 -- Each turn notes one class more: what lies before t is for each number the first text with the same bytes, and a table full of these is one of
--- classes (`text-tables`).
+-- classes (`text_tables`).
 
 use mathlib.Core.Path.{◌≡◌}
 use Prim.Native.Nat.{ℕ, ◌-◌, ◌≤◌, ◌<◌}

@@ -1,5 +1,5 @@
--- One of the n texts ends no earlier than it starts, and its length is the difference (`text-size`); any other number stands for an empty text
--- (`text-past`).
+-- One of the n texts ends no earlier than it starts, and its length is the difference (`text_size`); any other number stands for an empty text
+-- (`text_past`).
 
 use mathlib.Core.Path.{sym, ap}
 use native.Mathlib.Omega.{arith}
