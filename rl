@@ -2,9 +2,9 @@
 # Works on sheets: ./rl run FILE, ./rl check FILE and others; ./rl alone lists them. FILE is assembler text (.asm) or
 # an image.
 #
-# `run` and `check` use the programs `runner` and `checker`. Where one is missing, or a file that proofs rest on is newer
-# than the last time that `rt check` proved it and built it, it is proved and built first, which rt reports crate by
-# crate. target/rl/NAME says when that was; a later call starts the program at once.
+# `run` and `check` use the programs `runner` and `checker` in target/bin/. Where one is missing, or a file that proofs rest
+# on is newer, it is proved and built first (tests/program), which rt reports crate by crate; a later call starts the program at
+# once.
 set -euo pipefail
 top=$(cd "$(dirname "$0")" && pwd)
 
@@ -34,38 +34,14 @@ image() {
   esac
 }
 
-# Whether a program is built and nothing that it was proved from has changed since. What rt itself would find
-# unchanged by its content may be called changed here by its date; then rt says so, in seconds.
-is_built() {
-  [ -x "$top/target/bin/$1" ] && [ -f "$top/target/rl/$1" ] || return 1
-  local newer
-  newer=$(find "$top/crates.txt" "$top"/crates/*/{src,specs,proofs} -newer "$top/target/rl/$1" -print -quit 2>/dev/null || true)
-  [ -z "$newer" ]
-}
-
-# Proves and builds a program. The date is that of the beginning: a file that changes meanwhile is newer.
-build() {
-  local began
-  command -v rt >/dev/null || { echo "rl: $1 is not built, and the Rattle kit's command rt is not on the path" >&2; exit 2; }
-  echo "rl: proving the machine and building $1; where nothing is proved yet this takes many minutes" >&2
-  mkdir -p "$top/target/rl"
-  began=$(mktemp "$top/target/rl/$1.XXXXXX")
-  if ! (cd "$top" && rt check "$1") | grep --line-buffered '^rt: ' >&2; then
-    rm -f "$began"
-    echo "rl: $1 is not built: rt check $1 failed; target/log/ has all that it said" >&2
-    exit 1
-  fi
-  mv "$began" "$top/target/rl/$1"
-}
-
 # The image is whole before the program starts, so that a text that doesn't assemble is not run as an empty image. The
 # status is 0 for a value or a pass, 1 for any other answer, 2 where no line came.
 on_image() {
   file=$(mktemp)
   trap 'rm -f "$file"' EXIT
   image "$2" >"$file"
-  is_built "$1" || build "$1" </dev/null
-  line=$("$top/target/bin/$1" <"$file")
+  "$top/tests/program" "$1" </dev/null >/dev/null
+  line=$("$top/target/bin/$1" <"$file") || exit 2
   [ -n "$line" ] || exit 2
   echo "$line"
   case $line in pass | "value "*) ;; *) exit 1 ;; esac

@@ -1,4 +1,4 @@
-// The archive that `rt staticlib image_bench` writes at the top of the repository.
+// The archive that `tests/archive image_bench` puts in target/staticlib/.
 fn main() {
     let here = std::env::var("CARGO_MANIFEST_DIR").unwrap();
     println!("cargo:rustc-link-search=native={here}/../../target/staticlib");

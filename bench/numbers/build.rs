@@ -1,4 +1,4 @@
-// Links the proved loops, which `rt staticlib number_bench` writes below the repository's root.
+// Links the proved loops, which `tests/archive number_bench` writes below the repository's root.
 use std::path::PathBuf;
 
 fn main() {

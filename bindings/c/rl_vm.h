@@ -1,4 +1,4 @@
-/* The machine for C. Link with librl_vm.a, which `rt staticlib rl_vm` proves and writes to target/staticlib/.
+/* The machine for C. Link with librl_vm.a, which `tests/archive` makes of the proved crate rl_vm_c and writes to target/staticlib/.
  *
  * A slice is a pointer and a count of elements. Each pointer is not null and aligned for its elements, also where the count is
  * 0; it points to as many elements as the count says, which the caller may read, and write where the pointer is not const; and no slice or out

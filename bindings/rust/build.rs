@@ -1,5 +1,5 @@
 //! Links the proved machine: the archive that RL_VM_ARCHIVE names, or else the one that
-//! `rt staticlib rl_vm` writes at the top of the repository.
+//! `tests/archive` puts in target/staticlib/.
 
 use std::path::{Path, PathBuf};
 
@@ -30,7 +30,7 @@ fn link(archive: &Path) -> Result<(), String> {
     }
     if !archive.is_file() {
         return Err(format!(
-            "the machine's archive is missing: run `rt staticlib rl_vm` first, or name one in {NAMED}"
+            "the machine's archive is missing: run `tests/archive` first, or name one in {NAMED}"
         ));
     }
     let folder = archive.parent().ok_or("a file is in a folder")?;

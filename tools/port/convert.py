@@ -17,6 +17,8 @@ KEEP_ALL = "--all" in sys.argv
 ARGV = [a for a in sys.argv[1:] if a != "--all"]
 W = r"[^\s(){}.;,@\"«»`\[\]\\λ]+"
 TRIVIAL = {"search rules", "omega arith", "tt", "refl", "(search rules)", "(omega arith)", "absurd (omega arith)"}
+# a parameter that port.py gave another name, since `result` is a clause's word
+RENAMED = {"result": "res"}
 FIELDS = {"pre": "requires", "well-formed": "well_formed", "type-inv": "type_inv", "yielded-by": "yielded_by", "loan-name": "loan_name"}
 
 
@@ -243,6 +245,7 @@ class Function:
                     path = ".ensures." + fields[k] + "".join("." + r for r in rest)
         # older words for a test's two sides, and for what a `&mut` argument holds afterwards
         path = re.sub(r"^\.left(?![\w-])", ".false", re.sub(r"^\.taken(?![\w-])", ".true", re.sub(r"^\.last(?![\w-])", ".new", path)))
+        path = re.sub(r"^\.kept(?![\w-])", ".auto", path)
         params = self.n.get("params", {}).get(self.callee.get(place))
         if params:
             # what is known of the argument at that place, by the parameter's name
@@ -320,6 +323,8 @@ class Function:
                     return var + arm
                 return var + "." + self.step[q][1] + self.labels(q, "".join("." + r for r in rest))
             f = FIELDS.get(f, f)
+            if f == "args" and rest and rest[0] in RENAMED:
+                rest = [RENAMED[rest[0]]] + rest[1:]
             return var + "." + f + "".join("." + r for r in rest)
 
         body = pat.sub(one, body)
@@ -330,6 +335,9 @@ class Function:
         for name in re.findall(r"let (" + W + r") = " + re.escape(var) + r"\.if-not-" + W + r" in", body):
             body = re.sub(r"\(not-(?:true|false) _ (" + re.escape(name) + r"\.(?:true|false))\)", r"\1", body)
             body = re.sub(r"not-(?:true|false) _ (" + re.escape(name) + r"\.(?:true|false))", r"\1", body)
+        for name in re.findall(r"let (" + W + r") = " + re.escape(var) + r"\.args in", body):
+            for a, b in RENAMED.items():
+                body = re.sub(r"(?<![\w.])" + re.escape(name) + r"\." + a + r"(?![\w-])", name + "." + b, body)
         # lets that nothing cites any more
         for m in re.findall(r"let (" + W + r") = " + W + r"(?:\." + W + r")* in[ ]*\n", body):
             if len(re.findall(r"(?<![^\s(){};,])" + re.escape(m) + r"(?![\w'-])", body)) == 1:
@@ -476,7 +484,7 @@ def convert(path, names, module, crate):
         sep = "" if body.startswith("\n") else " "
         answers.append((k, comment, f"pub {new} : goal.{new}", unfolding, f"{lhs} ={sep}{body}"))
     used.add(last["name"])
-    helpers = [it for it in items[:-1] if it["name"] not in used or it["name"] is None]
+    helpers = [it for it in items[:-1] if (it["name"] not in used or it["name"] is None) and not re.search(r": tie\.Need-", it["sig"])]
     folder = os.path.dirname(path)
     keep_imports = [i for i in imports if not re.match(r"use Rattle\." + crate + r"\.proofs\." + re.escape(module) + r"\.(Statement|Tie)\b", i) and not i.startswith("use borrow.Author.Rules.")]
     needs_rules = any("rules" in x[4] for x in answers) or any("rules" in "\n".join(h["clauses"]) for h in helpers)

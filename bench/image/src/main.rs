@@ -1,6 +1,6 @@
 //! Times `load` on images of 65,536 bytes and on images of code lines alone, beside a plain decoding of the same bytes in Rust, in one run.
 //!
-//!     rt staticlib image_bench
+//!     tests/archive image_bench
 //!     cargo run --release --offline --manifest-path bench/image/Cargo.toml --target-dir target/cargo
 #[allow(dead_code)]
 #[path = "../../../bindings/rust/src/least.rs"]

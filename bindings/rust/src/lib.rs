@@ -1,7 +1,7 @@
 //! The proved machine: check and run of the crate `rl_vm` as safe functions of Rust, and the values that
 //! result bytes stand for.
 //!
-//! `rt staticlib rl_vm` proves the machine and writes the archive that this package links. [`check`] and
+//! `tests/archive` proves the machine and writes the archive that this package links. [`check`] and
 //! [`run`] keep their work memory with the thread; a [`Machine`] owns its own; [`check_in`] and [`run_in`]
 //! work on slices that the caller lends, and allocate nothing.
 #![deny(unsafe_code)]

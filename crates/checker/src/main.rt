@@ -49,13 +49,16 @@ fn input_line(read: &[u8], n: usize, out: &mut [u8]) -> usize
     answer_line(&read[..n], out)
 }
 
-fn main() {
+fn main(rt: HostRuntime) {
     let mut read = [0u8; IMAGE_MOST + 1];
     let mut line = [0u8; 96];
-    match input_of(read_input(b"checker", &mut read)) {
+    let mut input = rt.stdin();
+    let mut output = rt.stdout();
+    let mut errors = rt.stderr();
+    match input_of(read_input(&mut input, &mut errors, b"checker", &mut read)) {
         Input::Bytes(n) => {
             let k = input_line(&read, n, &mut line);
-            write_line(b"checker", &line, k);
+            write_line(&mut output, &mut errors, b"checker", &line, k);
         }
         Input::Failed => {}
     }

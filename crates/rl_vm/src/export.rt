@@ -7,8 +7,7 @@ ghost use Rattle.rl_vm.specs.Export.{ChecksAs};
 use rl_check::{check, chunk_of, line_of, number_of, offset_of};
 
 // `check`: 0 for a pass, else document 01's number, with its line or its chunk and offset in the last three.
-#[unsafe(no_mangle)]
-pub extern "C" fn rl_vm_check(
+pub fn rl_vm_check(
     image: &[u8],
     bytes: &mut [u8],
     ends: &mut [usize],

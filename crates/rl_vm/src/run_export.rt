@@ -9,8 +9,7 @@ use run_answers::{run_chunk, run_count, run_length, run_line, run_number, run_of
 
 // `run`: 0 for a value, else document 01's number. The last five numbers are the count, the length of the coded value, the line of a refusal, and
 // the chunk and offset of a stop.
-#[unsafe(no_mangle)]
-pub extern "C" fn rl_vm_run(
+pub fn rl_vm_run(
     image: &[u8],
     budget: usize,
     res: &mut [u8],

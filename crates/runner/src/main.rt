@@ -69,13 +69,16 @@ fn input_line(read: &[u8], n: usize, out: &mut [u8]) -> usize
     answer_line(&read[..n], out)
 }
 
-fn main() {
+fn main(rt: HostRuntime) {
     let mut read = [0u8; IMAGE_MOST + 1];
     let mut line = [0u8; 8224];
-    match input_of(read_input(b"runner", &mut read)) {
+    let mut input = rt.stdin();
+    let mut output = rt.stdout();
+    let mut errors = rt.stderr();
+    match input_of(read_input(&mut input, &mut errors, b"runner", &mut read)) {
         Input::Bytes(n) => {
             let k = input_line(&read, n, &mut line);
-            write_line(b"runner", &line, k);
+            write_line(&mut output, &mut errors, b"runner", &line, k);
         }
         Input::Failed => {}
     }

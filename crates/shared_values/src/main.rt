@@ -4,9 +4,9 @@
 
 mod shared_subtrees;
 
-use libc::STDOUT_FILENO;
 use numbers::Number;
 pub use shared_subtrees::{code_nested, compare_nested};
+use std::io;
 use value_coding::Coded;
 use values::VmValue;
 
@@ -31,45 +31,44 @@ pub enum Compared {
     NotBuilt,
 }
 
-fn say_compared(c: Compared) {
+fn say_compared(rt: &impl Print, c: Compared) -> io::Result<()> {
     match c {
         Compared::Answer(b) => {
             if b {
-                io::write_all(STDOUT_FILENO, b"equal\n");
+                println!(rt; "equal")
             } else {
-                io::write_all(STDOUT_FILENO, b"unequal\n");
+                println!(rt; "unequal")
             }
         }
-        Compared::NotBuilt => {
-            io::write_all(STDOUT_FILENO, b"not built\n");
-        }
+        Compared::NotBuilt => println!(rt; "not built"),
     }
 }
 
-fn say_coded(c: Coded) {
+fn say_coded(rt: &impl Print, c: Coded) -> io::Result<()> {
     match c {
-        Coded::Bytes(_) => {
-            io::write_all(STDOUT_FILENO, b"coded\n");
-        }
-        Coded::TooLong => {
-            io::write_all(STDOUT_FILENO, b"too long\n");
-        }
+        Coded::Bytes(_) => println!(rt; "coded"),
+        Coded::TooLong => println!(rt; "too long"),
     }
 }
 
 // Two trees with 2^64 leaves compared.
 fn compare(
+    rt: &impl Print,
     left: Number,
     left_last: Number,
     right: Number,
     right_last: Number,
     cells: &mut [u64],
     memo: &mut [u16],
-) {
-    say_compared(compare_nested(left, left_last, right, right_last, 64, cells, memo));
+) -> io::Result<()> {
+    say_compared(
+        rt,
+        compare_nested(left, left_last, right, right_last, 64, cells, memo),
+    )
 }
 
-fn main() {
+// A write that fails ends the run with its error.
+fn main(rt: HostRuntime) -> io::Result<()> {
     let mut cells = [0u64; 8192];
     let mut memo = [0u16; 4096];
     let mut out = [0u8; 4096];
@@ -79,17 +78,20 @@ fn main() {
     let minus_zero = Number::Float(-0.0);
     let nan = Number::Float(0.0 / 0.0);
     // equal in every leaf; unequal in every leaf; unequal in the last leaf alone
-    compare(one, one, one, one, &mut cells, &mut memo);
-    compare(one, one, two, two, &mut cells, &mut memo);
-    compare(one, one, one, two, &mut cells, &mut memo);
+    compare(&rt, one, one, one, one, &mut cells, &mut memo)?;
+    compare(&rt, one, one, two, two, &mut cells, &mut memo)?;
+    compare(&rt, one, one, one, two, &mut cells, &mut memo)?;
     // a NaN in every leaf; in the last leaf alone; on one side alone
-    compare(nan, nan, nan, nan, &mut cells, &mut memo);
-    compare(zero, nan, zero, nan, &mut cells, &mut memo);
-    compare(zero, zero, zero, nan, &mut cells, &mut memo);
+    compare(&rt, nan, nan, nan, nan, &mut cells, &mut memo)?;
+    compare(&rt, zero, nan, zero, nan, &mut cells, &mut memo)?;
+    compare(&rt, zero, zero, zero, nan, &mut cells, &mut memo)?;
     // zeros of both signs, in every leaf and in the last leaf alone
-    compare(zero, zero, minus_zero, minus_zero, &mut cells, &mut memo);
-    compare(zero, zero, zero, minus_zero, &mut cells, &mut memo);
-    say_coded(code_nested(one, one, 64, &mut cells, &mut out));
-    say_coded(code_nested(one, two, 64, &mut cells, &mut out));
-    say_coded(code_nested(one, two, 8, &mut cells, &mut out));
+    compare(
+        &rt, zero, zero, minus_zero, minus_zero, &mut cells, &mut memo,
+    )?;
+    compare(&rt, zero, zero, zero, minus_zero, &mut cells, &mut memo)?;
+    say_coded(&rt, code_nested(one, one, 64, &mut cells, &mut out))?;
+    say_coded(&rt, code_nested(one, two, 64, &mut cells, &mut out))?;
+    say_coded(&rt, code_nested(one, two, 8, &mut cells, &mut out))?;
+    Ok(())
 }

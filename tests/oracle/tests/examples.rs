@@ -215,7 +215,7 @@ fn all_rows_are_the_models_answers() {
 
 #[test]
 fn the_passing_images_pass() {
-    let images = Reader::at("Witnesses.antt", "passingImages").list(Reader::bytes);
+    let images = Reader::at("Witnesses.antt", "passing_images").list(Reader::bytes);
     assert!(images.len() >= PASSING, "only {} are read", images.len());
     for bytes in images {
         let image = model::load(&bytes).expect("it loads");

@@ -1,4 +1,4 @@
-//! Runs the programs that `rt check` and `rt ci` build (target/bin/) on standard streams of every sort: at once or
+//! Runs the programs that tests/program and the gate put in target/bin/ on standard streams of every sort: at once or
 //! slowly, closed, full, or no stream of bytes at all.
 
 use std::io::Write;
@@ -37,7 +37,10 @@ const PAUSE: Duration = Duration::from_millis(4);
 fn built(name: &str) -> PathBuf {
     let bin = Path::new(env!("CARGO_MANIFEST_DIR")).join("../../target/bin");
     let path = bin.join(name);
-    assert!(path.is_file(), "{name} is not built: run `rt check {name}`");
+    assert!(
+        path.is_file(),
+        "{name} is not built: run `tests/program {name}`"
+    );
     path
 }
 
