@@ -24,6 +24,8 @@ pub struct Names(BTreeMap<(String, String), Function>);
 
 struct Function {
     places: Vec<Json>,
+    /// Those of them that have the older names too.
+    of_form: Vec<Json>,
     /// Each goal, under the name that it has in older proofs, and its name.
     goals: Vec<(String, String)>,
     /// The goals that need no proof.
@@ -104,6 +106,7 @@ impl Function {
         };
         Function {
             places: PLACES.iter().filter_map(|p| part(p)).cloned().collect(),
+            of_form: ["places", "loops"].map(list).concat(),
             goals: list("needs").iter().filter_map(pair).collect(),
             settled: list("settled").iter().filter_map(text).collect(),
         }
@@ -116,6 +119,7 @@ impl Function {
         if self.places.len() != wrong.places.len() || !both.all(|(a, b)| beside(a, b, &mut pairs)) {
             return Renamed::new();
         }
+        let is_same_form = self.form() == wrong.form();
         let sort = |goal: &str| goal.split('-').next().map(str::to_string);
         for (old, goal) in &self.goals {
             let same = |(other, new): &&(String, String)| other == old && sort(new) == sort(goal);
@@ -124,8 +128,25 @@ impl Function {
             }
         }
         let (before, after) = (self.names(), wrong.names());
-        pairs.retain(|old, new| !after.contains(old) && !before.contains(new));
+        // where other functions are called, a name that is still there may have moved with its call
+        let gone = |old: &String, new: &String| !after.contains(old) && !before.contains(new);
+        pairs.retain(|old, new| old != new && (is_same_form || gone(old, new)));
         pairs
+    }
+
+    /// The places without today's names: each stands in a pair, behind the one that it had in older proofs, which says what it is and how
+    /// many of its sort came before.
+    fn form(&self) -> Vec<Json> {
+        fn older(value: &Json) -> Json {
+            match value {
+                Json::List(two) => match two.as_slice() {
+                    [Json::Text(old), Json::Text(_)] => Json::Text(old.clone()),
+                    _ => Json::List(two.iter().map(older).collect()),
+                },
+                other => other.clone(),
+            }
+        }
+        self.of_form.iter().map(older).collect()
     }
 
     fn names(&self) -> BTreeSet<String> {
@@ -140,8 +161,8 @@ impl Function {
 fn beside(a: &Json, b: &Json, pairs: &mut Renamed) -> bool {
     match (a, b) {
         (Json::Text(old), Json::Text(new)) => {
-            let other = (old != new).then(|| pairs.insert(old.clone(), new.clone()));
-            other.flatten().is_none_or(|before| before == *new)
+            let other = pairs.insert(old.clone(), new.clone());
+            other.is_none_or(|before| before == *new)
         }
         (Json::List(xs), Json::List(ys)) => {
             xs.len() == ys.len() && xs.iter().zip(ys).all(|(x, y)| beside(x, y, pairs))
@@ -295,12 +316,21 @@ mod tests {
     use super::*;
 
     fn names(goals: &[[&str; 2]], place: &str) -> Names {
+        at(goals, &[["if1", place]])
+    }
+
+    fn at(goals: &[[&str; 2]], places: &[[&str; 2]]) -> Names {
+        let places: Vec<String> = places
+            .iter()
+            .map(|[old, new]| format!("[\"Then1\", [\"{old}\", \"{new}\"], []]"))
+            .collect();
+        let places = places.join(", ");
         let goals: Vec<String> = goals
             .iter()
             .map(|[old, new]| format!("[\"{old}\", \"{new}\"]"))
             .collect();
         let list = format!(
-            "{{\"needs\": [{}], \"places\": [[\"Start\", null], [\"Then1\", [\"if1\", \"{place}\"], []]], \"settled\": [\"s\"]}}",
+            "{{\"needs\": [{}], \"places\": [[\"Start\", null], {places}], \"settled\": [\"s\"]}}",
             goals.join(", ")
         );
         let text = format!(
@@ -335,16 +365,22 @@ mod tests {
     #[test]
     fn another_form_is_not_carried() {
         let right = names(&[["returns", "returns-then-a-lt7"]], "if-a-lt7");
-        let wrong = names(&[["returns", "returns-then-a-lt8"]], "a\", \"b");
+        let more = [["if1", "if-a-lt8"], ["if2", "if-b"]];
+        let wrong = at(&[["returns", "returns-then-a-lt8"]], &more);
         assert!(right.carried(&wrong).is_empty());
         assert!(wrong.is_new(&right, "f", "returns-then-a-lt8"));
     }
 
     #[test]
-    fn names_that_change_places_stay() {
-        let one = names(&[["returns", "a"]], "b");
-        let other = names(&[["returns", "b"]], "a");
-        assert!(one.carried(&other).is_empty());
+    fn tests_that_change_places_are_followed_and_calls_are_not() {
+        let one = at(&[], &[["if1", "if-a-b"], ["if2", "if-b-a"]]);
+        let other = at(&[], &[["if1", "if-b-a"], ["if2", "if-b-a-2"]]);
+        let renamed = &one.carried(&other)["m/f"];
+        assert_eq!(carry("c.if-a-b c.if-b-a", renamed), "c.if-b-a c.if-b-a-2");
+        let one = at(&[], &[["f", "f"], ["g", "g"]]);
+        assert!(one.carried(&at(&[], &[["g", "g"], ["f", "f"]])).is_empty());
+        let other = one.carried(&at(&[], &[["f", "f"], ["h", "h"]]));
+        assert_eq!(carry("f g", &other["m/f"]), "f h");
     }
 
     #[test]
