@@ -5,7 +5,7 @@ ghost use Rattle.load_replay.specs.Marks.{mark_of, end_of};
 // Where an image ends whose answer's line, with this mark, begins at `at`.
 pub fn image_end(mark: usize, from: usize, at: usize) -> usize
     requires { from ≤ at }
-    ensures lower_bound { (from ≤ result) × (result ≤ at) }
+    ensures within { (from ≤ result) × (result ≤ at) }
     ensures value { result ≡ end_of mark from at }
 {
     if mark != 2 {

@@ -108,9 +108,9 @@ pub fn compare_nested(
     cells: &mut [u64],
     memo: &mut [u16],
 ) -> Compared
-    ensures compared_gives { ComparedGives left left_last right right_last depth (length cells.old) (length memo.old) result }
-    ensures all_zero { AllZero cells.new }
-    ensures all_zero_2 { AllZero memo.new }
+    ensures answer { ComparedGives left left_last right right_last depth (length cells.old) (length memo.old) result }
+    ensures cells { AllZero cells.new }
+    ensures memo { AllZero memo.new }
 {
     let answer = compare_in(left, left_last, right, right_last, depth, cells, memo);
     clear_u64(cells);
@@ -139,8 +139,8 @@ pub fn code_nested(
     cells: &mut [u64],
     out: &mut [u8],
 ) -> Coded
-    ensures coded_gives { CodedGives leaf last depth (length cells.old) out.old out.new result }
-    ensures all_zero { AllZero cells.new }
+    ensures answer { CodedGives leaf last depth (length cells.old) out.old out.new result }
+    ensures cells { AllZero cells.new }
 {
     let answer = code_in(leaf, last, depth, cells, out);
     clear_u64(cells);

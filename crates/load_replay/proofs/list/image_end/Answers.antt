@@ -6,14 +6,14 @@ use Rattle.load_replay.proofs.list.image_end.Goals as goal
 
 pub returns-then-mark-ne2 : goal.returns-then-mark-ne2
 returns-then-mark-ne2 c = let a = c.args in record {
-  lower_bound = (c.requires, omega arith);
+  within = (c.requires, omega arith);
   value = end_whole a.mark a.from a.at c.if-mark-ne2.true;
 }
 
 pub returns-then-from-at : goal.returns-then-from-at
 returns-then-from-at c =
     let a = c.args in record {
-      lower_bound = (omega (arith, c.if-from-at.true), omega arith);
+      within = (omega (arith, c.if-from-at.true), omega arith);
       value = end_cut a.mark a.from a.at c.if-mark-ne2.false c.if-from-at.true;
     }
 
@@ -21,6 +21,6 @@ pub returns : goal.returns
 returns c =
     let a = c.args in
     let pre = c.requires in record {
-      lower_bound = (pre, omega arith);
+      within = (pre, omega arith);
       value = end_empty a.mark a.from a.at c.if-mark-ne2.false c.if-from-at.false;
     }

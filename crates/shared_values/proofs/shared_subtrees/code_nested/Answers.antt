@@ -6,6 +6,6 @@ pub returns : goal.returns
 returns c =
     let clear_u64 = c.clear_u64 in
     let Code-in = c.code_in-answer in record {
-      coded_gives = Code-in.ensures;
-      all_zero = clear_u64.ensures;
+      answer = Code-in.ensures;
+      cells = clear_u64.ensures;
     }

@@ -7,7 +7,7 @@ returns c =
     let clear_u16 = c.clear_u16 in
     let clear_u64 = c.clear_u64 in
     let compare_in = c.compare_in-answer in record {
-      compared_gives = compare_in.ensures;
-      all_zero = clear_u64.ensures;
-      all_zero_2 = clear_u16.ensures;
+      answer = compare_in.ensures;
+      cells = clear_u64.ensures;
+      memo = clear_u16.ensures;
     }
