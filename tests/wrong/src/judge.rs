@@ -2,7 +2,7 @@
 
 use crate::batch::Placed;
 use crate::names::Names;
-use crate::prover::{About, Log, site};
+use crate::prover::{About, Error, Log, site};
 use crate::source::{Files, reached};
 
 /// A check of edited files, with what is known of their names.
@@ -12,6 +12,27 @@ pub struct Checked<'a> {
     pub files: &'a Files,
     /// The names of the right program and of the one that was checked; none where no function was edited, or where it does not compile.
     pub names: Option<(&'a Names, &'a Names)>,
+}
+
+/// What an edit is refused by.
+#[derive(Debug)]
+pub struct Refused {
+    pub error: String,
+    /// A fact that fails; or else a goal that the right program does not have, which is one only where the control has it too, and is proved.
+    pub is_fact: bool,
+}
+
+impl Refused {
+    fn by(error: &Error<'_>) -> Refused {
+        Refused {
+            error: error.text.to_string(),
+            is_fact: error.about == About::Fact,
+        }
+    }
+
+    fn for_its_form(&self) -> String {
+        format!("refused for its form: {}", self.error)
+    }
 }
 
 /// What came of a control.
@@ -26,7 +47,7 @@ pub enum Controlled {
 
 impl Checked<'_> {
     /// The errors of a function by itself, with what each is about.
-    fn own_errors(&self, function: &str) -> Vec<crate::prover::Error<'_>> {
+    fn own_errors(&self, function: &str) -> Vec<Error<'_>> {
         let is_new = |goal: &str| {
             self.names
                 .is_some_and(|(right, wrong)| wrong.is_new(right, function, goal))
@@ -34,8 +55,8 @@ impl Checked<'_> {
         self.log.own_errors(function, self.files, &is_new)
     }
 
-    /// The error by which an edit is refused, or why it does not pass.
-    pub fn wrong(&self, placed: &Placed) -> Result<String, String> {
+    /// By what an edit is refused, or why it does not pass.
+    pub fn wrong(&self, placed: &Placed) -> Result<Refused, String> {
         let first = self.log.first_error();
         if !self.log.refused() {
             return Err(format!(
@@ -43,22 +64,26 @@ impl Checked<'_> {
                 first.text
             ));
         }
-        let mut error = first.text;
+        let mut by = Refused::by(&first);
         if placed.edit.of.is_empty() && first.about != About::Fact {
-            return Err(format!("refused for its form: {error}"));
+            return Err(by.for_its_form());
         }
-        for of in &placed.edit.of {
+        for (number, of) in placed.edit.of.iter().enumerate() {
             if !self.log.unproved(of) {
-                return Err(format!("refused, but {of} is proved: {error}"));
+                return Err(format!("refused, but {of} is proved: {}", by.error));
             }
-            error = self.error_below(placed, of)?;
+            let below = self.error_below(placed, of)?;
+            if number == 0 || by.is_fact {
+                by = below;
+            }
         }
-        Ok(error.to_string())
+        Ok(by)
     }
 
-    /// The error of a function in which the edit lies, and which is `of` or is called by it: a fact that fails. Where one of its errors
-    /// is about the proof's form, none of them counts. An edit of a definition, or of a constant, lies in no function.
-    fn error_below(&self, placed: &Placed, of: &str) -> Result<&str, String> {
+    /// The error of a function in which the edit lies, and which is `of` or is called by it: a fact that fails, or else a goal that the
+    /// right program does not have. Where one of its errors is about the proof's form, none of them counts. An edit of a definition, or of a
+    /// constant, lies in no function.
+    fn error_below(&self, placed: &Placed, of: &str) -> Result<Refused, String> {
         let reached = reached(self.files, of);
         let mut why = format!(
             "{of} calls nothing that is refused by itself: {}",
@@ -73,8 +98,10 @@ impl Checked<'_> {
             let of_sort = |about: About| own.iter().find(|error| error.about == about);
             let found = of_sort(About::Form).or(of_sort(About::Fact));
             match found.or(own.first()) {
-                Some(error) if error.about == About::Fact => return Ok(error.text),
-                Some(error) => why = format!("refused for its form: {}", error.text),
+                Some(error) if error.about == About::Form => {
+                    why = Refused::by(error).for_its_form();
+                }
+                Some(error) => return Ok(Refused::by(error)),
                 None => {}
             }
         }
@@ -100,15 +127,18 @@ impl Checked<'_> {
     }
 }
 
-/// An edit that is refused by this error counts where its control is proved or refused at another place; where it brings a
-/// proof of its own, only where the control is proved.
+/// An edit that is refused by a fact counts where its control is proved or refused at another goal; where it brings a proof of its own, or is
+/// refused by a goal that the right program does not have, only where the control is proved.
 pub fn beside_control(
-    error: String,
+    by: Refused,
     control: Option<Controlled>,
     own_proof: bool,
 ) -> Result<String, String> {
+    let error = by.error.clone();
     match control {
-        None | Some(Controlled::Proved) => Ok(error),
+        Some(Controlled::Proved) => Ok(error),
+        _ if !by.is_fact => Err(by.for_its_form()),
+        None => Ok(error),
         Some(Controlled::Refused(other)) if own_proof => Err(format!(
             "its control, a right program, is not proved by the proof that it brings: {other}"
         )),
@@ -143,12 +173,13 @@ mod tests {
 
     fn wrong(log: Log, files: &Files, placed: &Placed) -> Result<String, String> {
         let names = None;
-        Checked {
+        let checked = Checked {
             log: &log,
             files,
             names,
-        }
-        .wrong(placed)
+        };
+        let by = checked.wrong(placed)?;
+        beside_control(by, None, false)
     }
 
     fn control(log: Log, placed: &Placed) -> Controlled {
@@ -212,9 +243,15 @@ mod tests {
 
     #[test]
     fn an_edit_counts_only_beside_its_control() {
-        let error = || FACT.to_string();
+        let by = |is_fact| Refused {
+            error: FACT.to_string(),
+            is_fact,
+        };
         let refused = |other: &str| Some(Controlled::Refused(other.to_string()));
-        let beside = |control, own_proof| beside_control(error(), control, own_proof);
+        let beside = |control, own_proof| beside_control(by(true), control, own_proof);
+        assert!(beside_control(by(false), None, false).is_err());
+        assert!(beside_control(by(false), refused(ELSEWHERE), false).is_err());
+        assert!(beside_control(by(false), Some(Controlled::Proved), false).is_ok());
         assert!(beside(None, false).is_ok());
         assert!(beside(Some(Controlled::Proved), false).is_ok());
         assert!(beside(refused(ELSEWHERE), false).is_ok());

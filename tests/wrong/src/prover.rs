@@ -24,8 +24,8 @@ pub struct Error<'a> {
 /// The function's files that errors name.
 const PROOFS: [&str; 3] = ["Answers.antt:", "Invariants.antt:", "Proof.antt:"];
 
-/// Before the names of the goals that are open.
-const OPEN: &str = ": it is not proved that ";
+/// How a line tells that a goal is open, behind its place in the code; the goal's name stands at the end.
+const OPEN: [&str; 2] = [": it is not proved that ", ": `search` found no proof "];
 
 impl Log {
     pub fn proved(&self) -> bool {
@@ -90,19 +90,40 @@ impl Log {
             Some((0, if is_fact { About::Fact } else { About::Parts }))
         };
         let all = self.messages().into_iter();
-        all.filter_map(|text| own(text).map(|(at, about)| (&text[at..], about)))
+        let mut all: Vec<Error<'_>> = all
+            .filter_map(|text| own(text).map(|(at, about)| (&text[at..], about)))
             .map(|(text, about)| Error { text, about })
-            .collect()
+            .collect();
+        // a goal that no line tells to be open
+        let verdict = self.verdict(name).unwrap_or("");
+        let open = verdict.split_once("`search` did not prove ");
+        for goal in open
+            .map_or("", |(_, goals)| goals)
+            .split('`')
+            .skip(1)
+            .step_by(2)
+        {
+            let named = format!("(`{goal}`)");
+            if !all.iter().any(|error| error.text.contains(&named)) {
+                let is_fact = !is_new(goal);
+                let about = if is_fact { About::Fact } else { About::Parts };
+                all.push(Error {
+                    text: verdict,
+                    about,
+                });
+            }
+        }
+        all
     }
 
     /// The first error of all.
     pub fn first_error(&self) -> Error<'_> {
         let first = |said: &&str| {
             let line = said.lines().next().unwrap_or("");
-            line.contains(OPEN) || line.starts_with("error") || is_error(line)
+            is_open(line) || line.starts_with("error") || is_error(line)
         };
         match self.messages().into_iter().find(first) {
-            Some(text) if text.lines().next().unwrap_or("").contains(OPEN) => Error {
+            Some(text) if is_open(text.lines().next().unwrap_or("")) => Error {
                 text,
                 about: About::Fact,
             },
@@ -138,6 +159,11 @@ fn is_error(line: &str) -> bool {
     line.contains(": error") && !rests.iter().any(|words| line.contains(words))
 }
 
+/// Whether a line tells that a goal is open.
+fn is_open(line: &str) -> bool {
+    OPEN.iter().any(|words| line.contains(words))
+}
+
 /// Where a line names the proof of this function.
 fn of_proof(line: &str, name: &str) -> Option<usize> {
     let of_it = |at: usize| line[..at].ends_with('/') || line[..at].ends_with("/+");
@@ -150,7 +176,7 @@ fn of_proof(line: &str, name: &str) -> Option<usize> {
 /// The goal that a line tells to be open, if it is one of this function's code: the file and the line are told before it, and the goal's
 /// name behind it.
 fn open_goal<'a>(line: &'a str, name: &str, files: &Files) -> Option<&'a str> {
-    let (place, said) = line.split_once(OPEN)?;
+    let (place, said) = OPEN.iter().find_map(|words| line.split_once(words))?;
     let mut place = place.trim_start_matches("note: ").split(':');
     let (file, number) = (place.next()?, place.next()?.parse().ok()?);
     let text = files.get(file.trim_start_matches("./"))?;
@@ -166,6 +192,7 @@ pub fn site(error: &str) -> String {
     let line = error.lines().next().unwrap_or("");
     let goal = match line.split_once(": error: `") {
         Some((_, rest)) => rest.split('`').next(),
+        None if line.contains("did not prove") => line.rsplit('`').nth(1),
         None => line
             .rsplit_once("(`")
             .and_then(|(_, rest)| rest.split('`').next()),
@@ -220,6 +247,7 @@ mod tests {
             "./proofs/m/low/Answers.antt:13:1: error: 1 declaration that depends on `x`, which was rejected, was not checked: a",
             "./proofs/m/+again/Answers.antt:9:1: error: `returns`: the two types differ only where one has `4`",
             "note: src/lib.rt:3:5: it is not proved that what the function ensures holds when it returns (`returns`)",
+            "note: src/lib.rt:6:9: `search` found no proof (`bounds-a-2`); `search` gave up at one of its limits",
             "note: src/lib.rt:7:5: it is not proved that the sum fits its type (`overflow_add-a`); the facts known there allow values at which this goal is false",
             "fn x::m::low: not proved",
             "fn x::m::again: not proved",
@@ -227,6 +255,7 @@ mod tests {
             "note: `search` has not tried the goals of `x::m::over`, which wait for a callee's proof: some may be open after it",
             "fn x::m::over: not proved; it calls `x::m::low`, which is not proved",
             "fn x::m::plain: no proof: expected answers in ./proofs/plain/Answers.antt; `search` did not prove `returns`",
+            "fn x::m::bare: no proof: expected answers in ./proofs/bare/Answers.antt; `search` did not prove `a`, `b`",
             "fn x::m::sum: not proved",
             "fn x::m::right: proved",
             "logic=not-proved",
@@ -260,7 +289,12 @@ mod tests {
     fn an_open_goal_is_a_fact_if_the_right_program_has_it_or_it_is_shown_false() {
         assert_eq!(own("plain", false)[0].1, About::Fact);
         assert_eq!(own("plain", true)[0].1, About::Parts);
-        assert_eq!(own("sum", true)[0].1, About::Fact);
+        assert_eq!(
+            (own("plain", false).len(), own("bare", false).len()),
+            (1, 2)
+        );
+        let abouts = own("sum", true).into_iter().map(|(_, about)| about);
+        assert_eq!(abouts.collect::<Vec<_>>(), [About::Parts, About::Fact]);
     }
 
     #[test]
@@ -289,7 +323,7 @@ mod tests {
         let site_of = |name: &str| site(&own(name, false)[0].0);
         assert_eq!(site_of("low"), "low/Answers returns");
         assert_eq!(site_of("plain"), " returns");
-        assert_eq!(site_of("sum"), " overflow_add-a");
+        assert_eq!(site_of("sum"), " bounds-a-2");
     }
 
     #[test]

@@ -3,7 +3,7 @@
 use crate::batch::{Batch, Placed, batches};
 use crate::copy::{Copy, crate_files, edits};
 use crate::edit::Edit;
-use crate::judge::{Checked, Controlled, beside_control};
+use crate::judge::{Checked, Controlled, Refused, beside_control};
 use crate::names::{Names, carry};
 use crate::source::Files;
 use std::collections::{BTreeMap, BTreeSet};
@@ -29,7 +29,7 @@ pub struct Trials {
 #[derive(Default)]
 struct Said {
     /// of each edit, by its name
-    answers: BTreeMap<String, Answer>,
+    answers: BTreeMap<String, Result<Refused, String>>,
     /// of each control, by the name of its edit
     controls: BTreeMap<String, Controlled>,
     /// The edits that bring a proof.
@@ -116,7 +116,7 @@ impl Trials {
             settled
         } else {
             let answer = checked.wrong(placed);
-            let settled = answer.is_ok();
+            let settled = answer.as_ref().is_ok_and(|by| by.is_fact);
             said.answers.insert(name, answer);
             settled
         }
