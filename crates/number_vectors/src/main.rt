@@ -10,7 +10,7 @@ ghost use Rattle.std.specs.Prelude.{◌≡◌, ◌<◌, ◌≤◌};
 ghost use Rattle.std.specs.Io.{ReadsAtMost};
 
 use number_codes::{FoundNumber, FoundTarget};
-use numbers::{ComparisonAnswer, Number, NumberAnswer};
+use numbers::{ComparisonFault, Number, NumberFault};
 use std::io;
 use std::io::Read;
 
@@ -29,10 +29,10 @@ enum Worked {
     Malformed,
 }
 
-fn number_coded(answer: NumberAnswer) -> Worked {
+fn number_coded(answer: Result<Number, NumberFault>) -> Worked {
     let fault = wide(numbers::fault_number(answer));
     match answer {
-        NumberAnswer::Value(x) => Worked::Answer(Coded {
+        Ok(x) => Worked::Answer(Coded {
             kind: wide(number_operands::kind_code(x)),
             word: number_codes::payload_of(x),
         }),
@@ -43,10 +43,10 @@ fn number_coded(answer: NumberAnswer) -> Worked {
     }
 }
 
-fn comparison_coded(answer: ComparisonAnswer) -> Worked {
+fn comparison_coded(answer: Result<bool, ComparisonFault>) -> Worked {
     let fault = wide(numbers::comparison_fault(answer));
     match answer {
-        ComparisonAnswer::Holds(b) => Worked::Answer(Coded {
+        Ok(b) => Worked::Answer(Coded {
             kind: 7,
             word: if b { 1 } else { 0 },
         }),
