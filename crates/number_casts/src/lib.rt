@@ -137,9 +137,7 @@ fn cast_from_float(target: CastTarget, x: f64) -> Result<Number, NumberFault>
     match target {
         CastTarget::ToInteger(k) => cast_truncated(k, x),
         CastTarget::ToFloat => Ok(Number::Float(x)),
-        CastTarget::ToSFloat => {
-            Ok(Number::SFloat(float_bits::nearest_f64_to_f32(x)))
-        }
+        CastTarget::ToSFloat => { Ok(Number::SFloat(float_bits::nearest_f64_to_f32(x))) }
     }
 }
 

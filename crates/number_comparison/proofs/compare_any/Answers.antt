@@ -1,5 +1,5 @@
 -- Each arm is one of the definition's. Two floats are compared by std, whose order is the definition's.
-use Rattle.std.proofs.Common.{◌≡◌, sym, ap, ◌∙◌}
+use Rattle.std.proofs.Common.{sym, ap, ◌∙◌}
 use Rattle.std.specs.Prelude.{ok_or}
 use Rattle.numbers.specs.declared.ComparisonFault.TheVariants.{Unordered}
 use Rattle.number_operands.specs.Operands.{operand_pair}
