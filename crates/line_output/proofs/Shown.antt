@@ -5,7 +5,7 @@ use Rattle.std.specs.Fmt as shown
 use Rattle.std.proofs.lemmas.Fmt.{AppendsLastDigit, decimal_from_appends, length-decimal-le_succ, hex_byte}
 use lib.ListN.{get_or}
 use lib.Seq.{take-suc}
-use Rattle.definition.specs.Runner.{digits_to, decimal, padded, hex_digit, hex}
+use Rattle.definition.specs.Runner.{ascii, digits_to, decimal, padded, hex_digit, hex, words}
 
 appends : AppendsLastDigit digits_to
 appends = record { one = λ k n h. let e = lt-ltb n 10 h in rw (e, digits_to); more = λ k n h. let e = le-ltb n 10 h in rw (e, digits_to) }
@@ -14,7 +14,7 @@ pub decimal_shown : (n : ℕ) → n < 2 ^ 64 → shown.decimal n ≡ decimal n
 decimal_shown n h = sym (decimal_from_appends digits_to appends (suc n) n h (let l = length-decimal-le_succ n h in omega (arith, l)))
 
 -- what is written of a number by `{:04}`
-pub padded_shown : (n : ℕ) → n < 2 ^ 64 → styled_decimal (format_spec 32 0 4 4 18446744073709551615) n ≡ padded n
+padded_shown : (n : ℕ) → n < 2 ^ 64 → styled_decimal (format_spec 32 0 4 4 18446744073709551615) n ≡ padded n
 unfolding padded_integral shown.char_count
 padded_shown n h =
     let zeros : 4 - length (decimal n) - 0 - 0 ≡ 4 - length (decimal n) = omega arith in
@@ -35,3 +35,19 @@ hex_next bytes i l h =
     ap (λ (x : List ℕ). hex (take i bytes) ++ x) (hex_byte true (get_or bytes i 0) h)
     ∙ sym (hex_append (take i bytes) (get_or bytes i 0 ∷ []))
     ∙ sym (ap hex (ap (λ (k : ℕ). take k bytes) more ∙ take-suc bytes i 0 l))
+
+-- the line of a refusal, and a place
+pub refused_shown :
+    (n k : ℕ) → n < 2 ^ 64 → k < 2 ^ 64
+    → ascii "refused " ++ (shown.decimal n ++ (32 ∷ (shown.decimal k ++ (10 ∷ [])))) ≡ words (ascii "refused" ∷ decimal n ∷ decimal k ∷ [])
+refused_shown n k h g =
+    ap (λ (d : List ℕ). ascii "refused " ++ (d ++ (32 ∷ (shown.decimal k ++ (10 ∷ []))))) (decimal_shown n h)
+    ∙ ap (λ (d : List ℕ). ascii "refused " ++ (decimal n ++ (32 ∷ (d ++ (10 ∷ []))))) (decimal_shown k g)
+
+pub place_shown :
+    (c o : ℕ) → c < 2 ^ 64 → o < 2 ^ 64
+    → styled_decimal (format_spec 32 0 4 4 18446744073709551615) c ++ (32 ∷ styled_decimal (format_spec 32 0 4 4 18446744073709551615) o)
+    ≡ padded c ++ (32 ∷ padded o)
+place_shown c o h g =
+    ap (λ (p : List ℕ). p ++ (32 ∷ styled_decimal (format_spec 32 0 4 4 18446744073709551615) o)) (padded_shown c h)
+    ∙ ap (λ (p : List ℕ). padded c ++ (32 ∷ p)) (padded_shown o g)

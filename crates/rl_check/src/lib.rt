@@ -11,7 +11,7 @@ ghost use Rattle.rl_check.specs.Check.{Checks, Ready, Judges};
 use clearing::clear_usize;
 use image::{LoadAnswer, load};
 use load_answers::clear_load;
-pub use numbers_of::{chunk_of, fault_number, line_of, number_of, offset_of};
+pub use numbers_of::{CheckNumbers, fault_number};
 use stack_check::check_image;
 
 // What `check` answers: a refusal with its line, a pass, or the fault with chunk and offset. specs/Check.antt, `answer_of`, gives document 01's

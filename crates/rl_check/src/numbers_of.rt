@@ -1,11 +1,12 @@
 // An answer of `check` as plain numbers: document 01's number, and its place.
 ghost use Rattle.std.specs.Prelude.{◌≡◌};
 ghost use Rattle.stack_check.specs.Answer.{reason_number};
-ghost use Rattle.rl_check.specs.Numbers.{check_number, check_line, check_chunk, check_offset};
+ghost use Rattle.rl_check.specs.Numbers.{AreNumbersOf};
 
 use crate::CheckAnswer;
 use load_answers::refusal_number;
 
+// A function, and no `From`: that would have to stand in `stack_check`, which knows the numbers in its specs/ alone.
 pub fn fault_number(r: stack_check::Reason) -> usize
     ensures { result ≡ reason_number r }
 {
@@ -17,43 +18,39 @@ pub fn fault_number(r: stack_check::Reason) -> usize
     }
 }
 
-// 0 for a pass.
-pub fn number_of(a: CheckAnswer) -> usize
-    ensures { result ≡ check_number a }
-{
-    match a {
-        CheckAnswer::Refused(reason, _) => refusal_number(reason),
-        CheckAnswer::Pass => 0,
-        CheckAnswer::Fault(reason, _, _) => fault_number(reason),
-    }
+// An answer as numbers. Each is 0 where the answer has none.
+#[derive(Clone, Copy)]
+pub struct CheckNumbers {
+    pub number: usize, // document 01's; 0 for a pass
+    pub line: usize,   // of a refusal
+    pub chunk: usize,  // of a fault, and its offset
+    pub offset: usize,
 }
 
-pub fn line_of(a: CheckAnswer) -> usize
-    ensures { result ≡ check_line a }
-{
-    match a {
-        CheckAnswer::Refused(_, line) => line,
-        CheckAnswer::Pass => 0,
-        CheckAnswer::Fault(_, _, _) => 0,
-    }
-}
+const NOTHING: CheckNumbers = CheckNumbers {
+    number: 0,
+    line: 0,
+    chunk: 0,
+    offset: 0,
+};
 
-pub fn chunk_of(a: CheckAnswer) -> usize
-    ensures { result ≡ check_chunk a }
-{
-    match a {
-        CheckAnswer::Refused(_, _) => 0,
-        CheckAnswer::Pass => 0,
-        CheckAnswer::Fault(_, chunk, _) => chunk,
-    }
-}
+impl From<CheckAnswer> for CheckNumbers {
+    ghost from_gives = { AreNumbersOf };
 
-pub fn offset_of(a: CheckAnswer) -> usize
-    ensures { result ≡ check_offset a }
-{
-    match a {
-        CheckAnswer::Refused(_, _) => 0,
-        CheckAnswer::Pass => 0,
-        CheckAnswer::Fault(_, _, offset) => offset,
+    fn from(answer: CheckAnswer) -> CheckNumbers {
+        match answer {
+            CheckAnswer::Refused(reason, line) => CheckNumbers {
+                number: refusal_number(reason),
+                line,
+                ..NOTHING
+            },
+            CheckAnswer::Pass => NOTHING,
+            CheckAnswer::Fault(reason, chunk, offset) => CheckNumbers {
+                number: fault_number(reason),
+                chunk,
+                offset,
+                ..NOTHING
+            },
+        }
     }
 }

@@ -4,7 +4,7 @@ ghost use Rattle.image.specs.Answer.{slices};
 ghost use Rattle.rl_check.specs.Work.{check_work, CheckZero};
 ghost use Rattle.rl_vm.specs.Export.{ChecksAs};
 
-use rl_check::{check, chunk_of, line_of, number_of, offset_of};
+use rl_check::{CheckNumbers, check};
 
 // `check`: 0 for a pass, else document 01's number, with its line or its chunk and offset in the last three.
 pub fn rl_vm_check(
@@ -27,8 +27,9 @@ pub fn rl_vm_check(
     let answer = check(
         image, bytes, ends, kinds, payloads, table, heights, depths, todo,
     );
-    *line = line_of(answer);
-    *chunk = chunk_of(answer);
-    *offset = offset_of(answer);
-    number_of(answer)
+    let numbers = CheckNumbers::from(answer);
+    *line = numbers.line;
+    *chunk = numbers.chunk;
+    *offset = numbers.offset;
+    numbers.number
 }

@@ -5,7 +5,7 @@ ghost use Rattle.run_answers.specs.Run.{own, OwnZero};
 ghost use Rattle.rl_vm.specs.RunExport.{RunsAs};
 
 use rl_run::run;
-use run_answers::{run_chunk, run_count, run_length, run_line, run_number, run_offset};
+use run_answers::RunNumbers;
 
 // `run`: 0 for a value, else document 01's number. The last five numbers are the count, the length of the coded value, the line of a refusal, and
 // the chunk and offset of a stop.
@@ -40,10 +40,11 @@ pub fn rl_vm_run(
         image, budget, res, bytes, ends, kinds, payloads, table, texts, classes, stack, locals,
         starts, globals, cells, memo,
     );
-    *count = run_count(answer);
-    *length = run_length(answer);
-    *line = run_line(answer);
-    *chunk = run_chunk(answer);
-    *offset = run_offset(answer);
-    run_number(answer)
+    let numbers = RunNumbers::from(answer);
+    *count = numbers.count;
+    *length = numbers.length;
+    *line = numbers.line;
+    *chunk = numbers.chunk;
+    *offset = numbers.offset;
+    numbers.number
 }

@@ -1,8 +1,9 @@
 -- An answer of `run` as plain numbers.
-use Rattle.std.specs.Prelude.{ℕ}
+use Rattle.std.specs.Prelude.{◌≡◌, ℕ}
 use Rattle.image.specs.Answer.{number_of}
 use Rattle.vm_acts.specs.Reasons.{reason_number}
 use Rattle.run_answers.specs.declared.RunAnswer.{RunAnswer}
+use Rattle.run_answers.specs.declared.run_numbers.RunNumbers.{RunNumbers}
 use Rattle.run_answers.specs.declared.RunAnswer.TheVariants.{Refused, Value, Stop}
 
 -- document 01's number; 0 for a value
@@ -37,3 +38,12 @@ abbrev pub run_offset : RunAnswer → ℕ
 run_offset (Refused r k) = 0
 run_offset (Value n size) = 0
 run_offset (Stop reason n c p) = p
+
+-- these are the numbers of an answer
+pub record AreNumbersOf (a : RunAnswer) (n : RunNumbers) : Type 0 where
+  pub number_is : n.number ≡ run_number a
+  pub count_is : n.count ≡ run_count a
+  pub length_is : n.length ≡ run_length a
+  pub line_is : n.line ≡ run_line a
+  pub chunk_is : n.chunk ≡ run_chunk a
+  pub offset_is : n.offset ≡ run_offset a

@@ -10,9 +10,7 @@ ghost use Rattle.vm_logic.specs.Endings.{EndHeld};
 ghost use Rattle.run_answers.specs.Run.{own, any_short, OwnZero, Ended};
 
 use clearing::{clear_u16, clear_u64, clear_usize};
-pub use run_numbers::{
-    run_chunk, run_count, run_length, run_line, run_number, run_offset, stop_number,
-};
+pub use run_numbers::{RunNumbers, stop_number};
 use value_coding::{Coded, code_value};
 use vm_acts::StopReason;
 use vm_logic::RunEnd;
@@ -35,6 +33,7 @@ pub enum RunAnswer {
 }
 
 // Whether one of the run's own slices is shorter than docs/OPERATIONS.md says, by their lengths.
+#[tactic(auto, unfolding(crate::specs::Run::any_short))]
 pub fn any_short(
     texts: usize,
     classes: usize,
@@ -47,28 +46,14 @@ pub fn any_short(
 ) -> bool
     ensures { result ≡ any_short texts classes stack locals starts globals cells memo }
 {
-    if texts < least::TEXTS {
-        return true;
-    }
-    if classes < least::CLASSES {
-        return true;
-    }
-    if stack < least::STACK {
-        return true;
-    }
-    if locals < least::LOCALS {
-        return true;
-    }
-    if starts < least::STARTS {
-        return true;
-    }
-    if globals < least::GLOBALS {
-        return true;
-    }
-    if cells < least::CELLS {
-        return true;
-    }
-    memo < least::MEMO
+    texts < least::TEXTS
+        || classes < least::CLASSES
+        || stack < least::STACK
+        || locals < least::LOCALS
+        || starts < least::STARTS
+        || globals < least::GLOBALS
+        || cells < least::CELLS
+        || memo < least::MEMO
 }
 
 // What the run was lent besides the slices of `load`.
