@@ -11,7 +11,7 @@ ghost use Rattle.stack_check.specs.Answer.{reason_number, ChunkIs, ChunkDecided,
 ghost use Rattle.clearing.specs.Zero.{AllZero};
 
 use chunk::{BackJump, CodeCursor, Flow, Inspected, Instr, StaticFault};
-use clearing::clear_usize;
+use clearing::clear;
 
 // Why a chunk does not pass: what `chunk` can see of one instruction, or that no heights exist.
 #[derive(Clone, Copy)]
@@ -378,7 +378,7 @@ fn judge(
     if n == 0 {
         return ChunkAnswer::Pass;
     }
-    clear_usize(heights);
+    clear(heights);
     heights[0] = 1;
     depths[0] = 0;
     todo[0] = 0;
@@ -415,9 +415,9 @@ pub fn check_chunk(
     ensures cleared { AllZero heights.new × AllZero depths.new × AllZero todo.new }
 {
     let answer = judge(code, kinds, heights, depths, todo);
-    clear_usize(heights);
-    clear_usize(depths);
-    clear_usize(todo);
+    clear(heights);
+    clear(depths);
+    clear(todo);
     answer
 }
 
@@ -491,8 +491,8 @@ pub fn check_image(
     ensures cleared { AllZero heights.new × AllZero depths.new × AllZero todo.new }
 {
     let answer = judge_all(bytes, kinds, table, chunks, heights, depths, todo);
-    clear_usize(heights);
-    clear_usize(depths);
-    clear_usize(todo);
+    clear(heights);
+    clear(depths);
+    clear(todo);
     answer
 }

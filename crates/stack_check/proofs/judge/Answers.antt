@@ -17,28 +17,28 @@ returns-then-n-eq0 c =
 
 pub bounds-heights-0 : goal.bounds-heights-0
 bounds-heights-0 c =
-    let clear_usize = c.clear_usize in
+    let clear_usize = c.clear in
     let if1 = c.if-n-eq0 in
     let pre = c.requires in
     omega (arith, positive _ if1.false, clear_usize.auto.a, pre.heights)
 
 pub bounds-depths-0 : goal.bounds-depths-0
 bounds-depths-0 c =
-    let clear_usize = c.clear_usize in
+    let clear_usize = c.clear in
     let if1 = c.if-n-eq0 in
     let pre = c.requires in
     omega (arith, positive _ if1.false, clear_usize.auto.a, pre.heights, pre.depths)
 
 pub bounds-todo-0 : goal.bounds-todo-0
 bounds-todo-0 c =
-    let clear_usize = c.clear_usize in
+    let clear_usize = c.clear in
     let if1 = c.if-n-eq0 in
     let pre = c.requires in
     omega (arith, positive _ if1.false, clear_usize.auto.a, pre.heights, pre.todo)
 
 pub loop-s-init : goal.loop-s-init
 loop-s-init c =
-    let clear_usize = c.clear_usize in
+    let clear_usize = c.clear in
     let if1 = c.if-n-eq0 in
     let args = c.args in
     let pre = c.requires in (
@@ -76,7 +76,7 @@ fault_reason-requires c =
 pub shape_of-heights-then-low-n : goal.shape_of-heights-then-low-n
 shape_of-heights-then-low-n c =
     let loop = c.loop-s in
-    let clear_usize = c.clear_usize in
+    let clear_usize = c.clear in
     loop.invariant.1 ∙ simp length-set clear_usize.auto.a
 
 pub shape_of-depths-then-low-n : goal.shape_of-depths-then-low-n
@@ -99,7 +99,7 @@ returns-then-low-n c =
 pub shape_of-heights-then-s-eq0 : goal.shape_of-heights-then-s-eq0
 shape_of-heights-then-s-eq0 c =
     let loop = c.loop-s in
-    let clear_usize = c.clear_usize in
+    let clear_usize = c.clear in
     loop.invariant.1 ∙ simp length-set clear_usize.auto.a
 
 pub shape_of-depths-then-s-eq0 : goal.shape_of-depths-then-s-eq0
@@ -124,7 +124,7 @@ returns-then-s-eq0 c =
 pub shape_of-heights-else-s-eq0 : goal.shape_of-heights-else-s-eq0
 shape_of-heights-else-s-eq0 c =
     let loop = c.loop-s in
-    let clear_usize = c.clear_usize in
+    let clear_usize = c.clear in
     loop.invariant.1 ∙ simp length-set clear_usize.auto.a
 
 pub shape_of-depths-else-s-eq0 : goal.shape_of-depths-else-s-eq0
