@@ -1,4 +1,4 @@
--- What `judge` finds for the chunk of this code and these kinds holds for every chunk with them; the slices are zero as `clear_usize` leaves them.
+-- What `judge` finds for the chunk of this code and these kinds holds for every chunk with them; the slices are zero as `clear` leaves them.
 
 use mathlib.Core.Path.{sym}
 use Rattle.stack_check.proofs.Whole.{answer_for}
