@@ -22,8 +22,8 @@ pub fn fault_number(r: stack_check::Reason) -> usize
 #[derive(Clone, Copy)]
 pub struct CheckNumbers {
     pub number: usize, // document 01's; 0 for a pass
-    pub line: usize,   // of a refusal
-    pub chunk: usize,  // of a fault, and its offset
+    pub line: usize, // of a refusal
+    pub chunk: usize, // of a fault, and its offset
     pub offset: usize,
 }
 

@@ -10,34 +10,34 @@ use Rattle.run_answers.specs.declared.RunAnswer.TheVariants.{Refused, Value, Sto
 abbrev pub run_number : RunAnswer → ℕ
 run_number (Refused r k) = number_of r
 run_number (Value n size) = 0
-run_number (Stop reason n c p) = reason_number reason
+run_number (Stop s) = reason_number s.reason
 
 -- the count of instructions begun; 0 for a refusal
 abbrev pub run_count : RunAnswer → ℕ
 run_count (Refused r k) = 0
 run_count (Value n size) = n
-run_count (Stop reason n c p) = n
+run_count (Stop s) = s.count
 
 -- how many bytes of the result slice a value has, the line of a refusal, the chunk and the offset of a stop; else 0
 abbrev pub run_length : RunAnswer → ℕ
 run_length (Refused r k) = 0
 run_length (Value n size) = size
-run_length (Stop reason n c p) = 0
+run_length (Stop s) = 0
 
 abbrev pub run_line : RunAnswer → ℕ
 run_line (Refused r k) = k
 run_line (Value n size) = 0
-run_line (Stop reason n c p) = 0
+run_line (Stop s) = 0
 
 abbrev pub run_chunk : RunAnswer → ℕ
 run_chunk (Refused r k) = 0
 run_chunk (Value n size) = 0
-run_chunk (Stop reason n c p) = c
+run_chunk (Stop s) = s.chunk
 
 abbrev pub run_offset : RunAnswer → ℕ
 run_offset (Refused r k) = 0
 run_offset (Value n size) = 0
-run_offset (Stop reason n c p) = p
+run_offset (Stop s) = s.offset
 
 -- these are the numbers of an answer
 pub record AreNumbersOf (a : RunAnswer) (n : RunNumbers) : Type 0 where

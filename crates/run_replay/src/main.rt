@@ -167,12 +167,14 @@ fn agrees(a: RunAnswer, res: &[u8], line: &[u8], from: usize) -> bool {
             from,
         ),
         RunAnswer::Value { count, length } => is_value(count, length, res, line, from),
-        RunAnswer::Stop {
-            reason,
-            count,
-            chunk,
-            offset,
-        } => is_stop(stop_number(reason), count, chunk, offset, line, from),
+        RunAnswer::Stop(stop) => is_stop(
+            stop_number(stop.reason),
+            stop.count,
+            stop.chunk,
+            stop.offset,
+            line,
+            from,
+        ),
     }
 }
 

@@ -30,7 +30,7 @@ module _ (a : RunAnswer) (l : List ℕ) where
       ∙ ap (λ (x : RunAnswer). line_of x l) (sym q)
 
   pub stop_line :
-      (e : StopReason) (n k c o : ℕ) → a ≡ Stop e k c o → n ≡ reason_number e → n < 2 ^ 64 → k < 2 ^ 64
+      (e : StopReason) (n k c o : ℕ) → a ≡ Stop (record { reason = e; count = k; chunk = c; offset = o }) → n ≡ reason_number e → n < 2 ^ 64 → k < 2 ^ 64
       → ascii "stop " ++ (shown.decimal n ++ (32 ∷ (shown.decimal k ++ (32 ∷ ((padded c ++ (32 ∷ padded o)) ++ (10 ∷ [])))))) ≡ line_of a l
   stop_line e n k c o q m h g =
       ap (λ (d : List ℕ). ascii "stop " ++ (d ++ (32 ∷ (shown.decimal k ++ (32 ∷ ((padded c ++ (32 ∷ padded o)) ++ (10 ∷ []))))))) (decimal_shown n h)

@@ -7,6 +7,7 @@ use line_output::{Hex, Place, RefusedLine};
 use rl_vm::{RunAnswer, refusal_number, stop_number};
 use std::fmt;
 use std::fmt::{Display, Formatter};
+use vm_acts::Stopped;
 
 // How many bytes the result may have: document 01 says it of the runner.
 pub const RESULT: usize = 4096;
@@ -31,12 +32,14 @@ impl Display for Line {
             RunAnswer::Value { count, length } => {
                 writeln!(f, "value {count} {}", Hex(&self.result[..length]))
             }
-            RunAnswer::Stop {
-                reason,
-                count,
-                chunk,
-                offset,
-            } => {
+            RunAnswer::Stop(
+                Stopped {
+                    reason,
+                    count,
+                    chunk,
+                    offset,
+                },
+            ) => {
                 let number = stop_number(reason);
                 writeln!(f, "stop {number} {count} {}", Place { chunk, offset })
             }
