@@ -1,7 +1,6 @@
 -- The turns of a loop, and the number that it starts from. Assumes nothing.
-use Rattle.std.proofs.Common.{◌≡◌, ℕ, ◌+◌, ◌%◌, ◌^◌, ◌<◌, pos, sym, refl, ap, ◌∙◌, subst, add-one}
+use Rattle.std.proofs.Common.{◌≡◌, ℕ, ◌+◌, ◌%◌, ◌^◌, ◌<◌, sym, refl, ap, ◌∙◌, subst, add-one}
 use Rattle.numbers.specs.declared.Number.{Number}
-use Rattle.numbers.specs.declared.Number.TheVariants.{Int}
 use Rattle.numbers.specs.declared.NumberAnswer.{NumberAnswer}
 use Rattle.numbers.specs.declared.NumberAnswer.TheVariants.{Value}
 use Rattle.numbers.specs.declared.ComparisonAnswer.{ComparisonAnswer}
@@ -9,18 +8,8 @@ use Rattle.numbers.specs.declared.CastTarget.TheVariants.{ToInteger, ToFloat}
 use Rattle.numbers.specs.declared.IntKind.TheVariants.{I64}
 use Rattle.numbers.specs.Compare.{less_of}
 use Rattle.numbers.specs.Casts.{cast_of}
-use Rattle.number_codes.specs.declared.FoundNumber.{FoundNumber}
-use Rattle.number_codes.specs.declared.FoundNumber.TheVariants.{Found, NoNumber}
-use Rattle.number_codes.specs.Payloads.{payload_of, number_of_payload}
-use Rattle.number_bench.specs.Turns.{or_zero, number_at, onto, turns, Ends, Stops, steps, pace_of, count_on, value_or, back, there_and_back}
-
-pub found_is : (kind word : ℕ) {x : Number} {r : FoundNumber} → r ≡ number_of_payload kind word → r ≡ Found x → x ≡ number_at kind word
-unfolding number_at
-found_is kind word e g = ap or_zero (sym g ∙ e)
-
-pub none_is : (kind word : ℕ) {r : FoundNumber} → r ≡ number_of_payload kind word → r ≡ NoNumber → Int (pos 0) ≡ number_at kind word
-unfolding number_at
-none_is kind word e g = ap or_zero (sym g ∙ e)
+use Rattle.number_codes.specs.Payloads.{payload_of}
+use Rattle.number_bench.specs.Turns.{number_at, onto, turns, Ends, Stops, steps, pace_of, count_on, value_or, back, there_and_back}
 
 -- ---- the loop of an operation f
 pub no_turn : (f : Number → NumberAnswer) (x : Number) → turns f 0 x ≡ Value x

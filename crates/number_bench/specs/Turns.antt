@@ -1,5 +1,5 @@
 -- What the loops compute: so many turns of one operation of the definition, each on what the turn before answered.
-use Rattle.std.specs.Prelude.{◌≡◌, ℕ, zero, suc, ◌+◌, ◌%◌, ◌^◌, ◌<◌, cond, ◌⊎◌, pos}
+use Rattle.std.specs.Prelude.{◌≡◌, ℕ, zero, suc, ◌+◌, ◌%◌, ◌^◌, ◌<◌, cond, ◌⊎◌, pos, unwrap_or}
 use Rattle.numbers.specs.declared.Number.{Number}
 use Rattle.numbers.specs.declared.Number.TheVariants.{Int}
 use Rattle.numbers.specs.declared.NumberAnswer.{NumberAnswer}
@@ -10,17 +10,11 @@ use Rattle.numbers.specs.declared.CastTarget.TheVariants.{ToInteger, ToFloat}
 use Rattle.numbers.specs.declared.IntKind.TheVariants.{I64}
 use Rattle.numbers.specs.Compare.{less_of}
 use Rattle.numbers.specs.Casts.{cast_of}
-use Rattle.number_codes.specs.declared.FoundNumber.{FoundNumber}
-use Rattle.number_codes.specs.declared.FoundNumber.TheVariants.{Found, NoNumber}
 use Rattle.number_codes.specs.Payloads.{payload_of, number_of_payload}
 
-abbrev pub or_zero : FoundNumber → Number
-or_zero (Found x) = x
-or_zero NoNumber = Int (pos 0)
-
 -- the number of a kind's code and a payload; the Int 0 where the code is no number's
-unfoldable pub number_at : ℕ → ℕ → Number
-number_at kind word = or_zero (number_of_payload kind word)
+abbrev pub number_at : ℕ → ℕ → Number
+number_at kind word = unwrap_or (number_of_payload kind word) (Int (pos 0))
 
 -- a fault stays one
 abbrev pub onto : (Number → NumberAnswer) → NumberAnswer → NumberAnswer

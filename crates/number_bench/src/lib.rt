@@ -8,16 +8,12 @@ ghost use Rattle.numbers.specs.Arithmetic.{add_of, sub_of, mul_of};
 ghost use Rattle.number_codes.specs.Payloads.{payload_of};
 ghost use Rattle.number_bench.specs.Turns.{number_at, Gives, steps, pace_of, count_on, value_or, there_and_back};
 
-use number_codes::FoundNumber;
 use numbers::{CastTarget, ComparisonAnswer, IntKind, Number, NumberAnswer};
 
 fn number(kind: u8, word: u64) -> Number
     ensures { result ≡ number_at kind word }
 {
-    match number_codes::number_of_payload(kind, word) {
-        FoundNumber::Found(x) => x,
-        FoundNumber::NoNumber => Number::Int(0),
-    }
+    number_codes::number_of_payload(kind, word).unwrap_or(Number::Int(0))
 }
 
 // The value, or where there is none x.

@@ -9,7 +9,6 @@
 ghost use Rattle.std.specs.Prelude.{◌≡◌, ◌<◌, ◌≤◌};
 ghost use Rattle.std.specs.Io.{ReadsAtMost};
 
-use number_codes::{FoundNumber, FoundTarget};
 use numbers::{ComparisonAnswer, Number, NumberAnswer};
 use std::io;
 use std::io::Read;
@@ -78,29 +77,24 @@ fn comparison(op: u64, x: Number, y: Number) -> Worked {
 }
 
 // A number from its kind code and its payload, which has no bit above its kind's width. Any payload of a NaN is taken.
-fn number(kind: u64, word: u64) -> FoundNumber {
+fn number(kind: u64, word: u64) -> Option<Number> {
     if 255 < kind {
-        return FoundNumber::NoNumber;
+        return None;
     }
     if kind == 6 && 0xffff_ffff < word {
-        return FoundNumber::NoNumber;
+        return None;
     }
-    match number_codes::number_of_payload(kind as u8, word) {
-        FoundNumber::Found(x) => {
-            if kind != 5 && kind != 6 && number_codes::payload_of(x) != word {
-                FoundNumber::NoNumber
-            } else {
-                FoundNumber::Found(x)
-            }
-        }
-        FoundNumber::NoNumber => FoundNumber::NoNumber,
+    let x = number_codes::number_of_payload(kind as u8, word)?;
+    if kind != 5 && kind != 6 && number_codes::payload_of(x) != word {
+        return None;
     }
+    Some(x)
 }
 
 fn cast(x: Number, target: u64) -> Worked {
     match number_codes::cast_target(target) {
-        FoundTarget::Target(t) => number_coded(number_casts::cast(t, x)),
-        FoundTarget::NoTarget => Worked::Malformed,
+        Some(t) => number_coded(number_casts::cast(t, x)),
+        None => Worked::Malformed,
     }
 }
 
@@ -134,15 +128,15 @@ fn on_number(op: u64, x: Number, second_kind: u64, second: u64) -> Worked {
         return unary(op, x, second);
     }
     match number(second_kind, second) {
-        FoundNumber::Found(y) => binary(op, x, y),
-        FoundNumber::NoNumber => Worked::Malformed,
+        Some(y) => binary(op, x, y),
+        None => Worked::Malformed,
     }
 }
 
 fn work(op: u64, first_kind: u64, first: u64, second_kind: u64, second: u64) -> Worked {
     match number(first_kind, first) {
-        FoundNumber::Found(x) => on_number(op, x, second_kind, second),
-        FoundNumber::NoNumber => Worked::Malformed,
+        Some(x) => on_number(op, x, second_kind, second),
+        None => Worked::Malformed,
     }
 }
 

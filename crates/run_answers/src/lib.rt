@@ -13,7 +13,7 @@ use clearing::{clear_u16, clear_u64, clear_usize};
 pub use run_numbers::{
     run_chunk, run_count, run_length, run_line, run_number, run_offset, stop_number,
 };
-use value_coding::{Coded, code_value};
+use value_coding::code_value;
 use vm_acts::StopReason;
 use vm_logic::RunEnd;
 
@@ -105,8 +105,8 @@ pub fn code_end(end: RunEnd, cells: &[u64], res: &mut [u8]) -> RunAnswer
             cells: taken,
             count,
         } => match code_value(cells, taken, value, res) {
-            Coded::Bytes(length) => RunAnswer::Value { count, length },
-            Coded::TooLong => RunAnswer::Stop {
+            Some(length) => RunAnswer::Value { count, length },
+            None => RunAnswer::Stop {
                 reason: StopReason::ResultTooLong,
                 count,
                 chunk: 0,
