@@ -32,7 +32,7 @@ use Rattle.value_coding.specs.Coding.{code_of, coded_answer, coded_out, CodeGive
 use Rattle.values.proofs.InCells.{cells_length}
 use Rattle.value_equality.proofs.Memos.{memo_none, down_none}
 use Rattle.values.proofs.FlatTrees.{none_formed}
-use Rattle.shared_values.specs.Nested.{nested_tree, last_tree, no_image, NestedAsks, Stays, Grows, GrownGives, NestedAt, NestedGives, CodedGives, done}
+use Rattle.shared_values.specs.Nested.{nested_tree, last_tree, no_image, NestedAsks, Stays, Grows, NestedAt, NestedGives, CodedGives, done}
 
 -- two values stored in a slice of four zeros
 pub pair_is : (p q : List ℕ) (x y : VmValue) → pairs p ≡ set (pairs (0 ∷ 0 ∷ 0 ∷ 0 ∷ [])) 0 x → pairs q ≡ set (pairs p) 1 y → take 2 (drop 0 (pairs q)) ≡ x ∷ y ∷ []

@@ -2,7 +2,7 @@
 -- is the tree.
 
 use mathlib.Core.Path.{refl}
-use mathlib.Core.Logic.{inl, inr}
+use mathlib.Core.Logic.{inr}
 use native.Mathlib.Omega.{arith}
 use lib.ListN.{length}
 use Rattle.shared_values.specs.Nested.{not_built}

@@ -2,7 +2,7 @@
 -- and its answer is that for the trees.
 
 use native.Mathlib.Omega.{arith}
-use mathlib.Core.Logic.{inl, inr}
+use mathlib.Core.Logic.{inr}
 use Prim.Native.Nat.{◌*◌, ◌≤◌}
 use Rattle.shared_values.proofs.Nesting.{empty_asks, equal_asks, equal_gives, nested_at, too_nested}
 use Rattle.shared_values.proofs.shared_subtrees.compare_in.Goals as goal

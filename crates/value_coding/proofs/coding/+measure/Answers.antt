@@ -56,9 +56,12 @@ loop-i-preserved t c =
     let args = c.args in
     let l = loop_test.true in (
       omega arith,
-      omega (arith, next_left args.cells.now args.nc args.v Block-of.result header_of.result c.requires
-          Block-of.ensures header_of.ensures args.room loop.left loop.i c.in_ok-left.left load_value.result measure2.result l load_value.ensures.0
-          (omega (arith, loop.invariant.1)) measure2.ensures c.in_ok-left.was),
+      omega (
+        arith,
+        next_left args.cells.now args.nc args.v Block-of.result header_of.result c.requires
+            Block-of.ensures header_of.ensures args.room loop.left loop.i c.in_ok-left.left load_value.result measure2.result l load_value.ensures.0
+            (omega (arith, loop.invariant.1)) measure2.ensures c.in_ok-left.was,
+      ),
     )
 
 pub returns : goal.returns
