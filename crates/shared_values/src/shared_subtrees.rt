@@ -7,7 +7,7 @@ ghost use Rattle.values.specs.Words.{Fit};
 ghost use Rattle.values.specs.Building.{Builds};
 ghost use Rattle.shared_values.specs.Nested.{NestedAsks, GrownGives, NestedGives, ComparedGives, CodedGives};
 
-use clearing::{clear_u16, clear_u64};
+use clearing::clear;
 use numbers::Number;
 use values::{BuildFault, SequenceKind, VmValue};
 
@@ -79,7 +79,7 @@ fn compare_in(
     if memo.len() < 4096 {
         return None;
     }
-    clear_u16(memo);
+    clear(memo);
     let Ok((a, n)) = nest(cells, 0, left, left_last, depth) else {
         return None;
     };
@@ -104,8 +104,8 @@ pub fn compare_nested(
     ensures memo { AllZero memo.new }
 {
     let answer = compare_in(left, left_last, right, right_last, depth, cells, memo);
-    clear_u64(cells);
-    clear_u16(memo);
+    clear(cells);
+    clear(memo);
     answer
 }
 
@@ -140,6 +140,6 @@ pub fn code_nested(
     ensures cells { AllZero cells.new }
 {
     let answer = code_in(leaf, last, depth, cells, out);
-    clear_u64(cells);
+    clear(cells);
     answer
 }

@@ -14,7 +14,7 @@ pub equal-requires : goal.equal-requires
 equal-requires c =
     let a = c.args in
     equal_asks a.left a.left_last a.right a.right_last a.depth c.in-Ok.n c.in-Ok-nest.m a.cells.now c.nest.new.cells c.nest-2.new.cells
-    c.clear_u16.new.a c.in-Ok.a c.in-Ok-nest.b c.clear_u16.ensures (let h = c.clear_u16.auto in omega (arith, c.if-memo-lt4096.false, h))
+    c.clear.new.a c.in-Ok.a c.in-Ok-nest.b c.clear.ensures (let h = c.clear.auto in omega (arith, c.if-memo-lt4096.false, h))
     (nested_at a.left a.left_last a.depth 0 a.cells.now c.nest.new.cells c.in-Ok.is c.nest.ensures) (nested_at a.right a.right_last a.depth c.in-Ok.n c.nest.new.cells c.nest-2.new.cells c.in-Ok-nest.is c.nest-2.ensures)
 
 pub returns : goal.returns
