@@ -9,12 +9,13 @@ use borrow.Author.Tests.{ltb-true, leb-true}
 use lib.Dec.{leb, ltb, eqb}
 use lib.IntN.{ℤ, pos, negsuc}
 use lib.ListN.{length, get_or, get_elem?, take, drop, set, replicate, length-take, length-drop, length-set, length-reverse}
+use Rattle.std.proofs.Common.{Result, Ok, Err}
 use Rattle.numbers.specs.declared.Number.{Number}
 use Rattle.numbers.specs.declared.CastTarget.{CastTarget}
-use Rattle.numbers.specs.declared.NumberAnswer.{NumberAnswer}
-use Rattle.numbers.specs.declared.NumberAnswer.TheVariants.{Value as Number-is, Overflow, ZeroDivisor, WrongKind, InvalidCast}
-use Rattle.numbers.specs.declared.ComparisonAnswer.{ComparisonAnswer}
-use Rattle.numbers.specs.declared.ComparisonAnswer.TheVariants as comparison
+use Rattle.numbers.specs.declared.NumberFault.{NumberFault}
+use Rattle.numbers.specs.declared.NumberFault.TheVariants.{Overflow, ZeroDivisor, WrongKind, InvalidCast}
+use Rattle.numbers.specs.declared.ComparisonFault.{ComparisonFault}
+use Rattle.numbers.specs.declared.ComparisonFault.TheVariants as comparison
 use Rattle.numbers.specs.Arithmetic.{add_of, sub_of, mul_of, div_of, negate_of}
 use Rattle.numbers.specs.Compare.{less_of, less_eq_of, greater_of, greater_eq_of}
 use Rattle.numbers.specs.Casts.{cast_of}
@@ -193,12 +194,12 @@ module _ (test : Head → Bool) where
     made : {x : Shape Value} → Fine x → AnswerKept (new x)
     refused : {e : OperationFault} → AnswerKept (bad e)
 
-  number_kept : (a : NumberAnswer) → ((x : Number) → a ≡ Number-is x → test (num x) ≡ true) → AnswerKept (number a)
-  number_kept (Number-is x) f = made (scalar_fine (num x) (f x refl))
-  number_kept Overflow f = refused
-  number_kept ZeroDivisor f = refused
-  number_kept WrongKind f = refused
-  number_kept InvalidCast f = refused
+  number_kept : (a : Result Number NumberFault) → ((x : Number) → a ≡ Ok x → test (num x) ≡ true) → AnswerKept (number a)
+  number_kept (Ok x) f = made (scalar_fine (num x) (f x refl))
+  number_kept (Err Overflow) f = refused
+  number_kept (Err ZeroDivisor) f = refused
+  number_kept (Err WrongKind) f = refused
+  number_kept (Err InvalidCast) f = refused
 
   -- the number in a head that passes
   abbrev NumberKept : Option Number → Type 0
@@ -219,22 +220,22 @@ module _ (test : Head → Bool) where
   number_in err t = tt
   number_in (closure c j) t = tt
 
-  abbrev OfTwo : (Number → Number → NumberAnswer) → Type 0
-  OfTwo f = (a b x : Number) → test (num a) ≡ true → test (num b) ≡ true → f a b ≡ Number-is x → test (num x) ≡ true
+  abbrev OfTwo : (Number → Number → Result Number NumberFault) → Type 0
+  OfTwo f = (a b x : Number) → test (num a) ≡ true → test (num b) ≡ true → f a b ≡ Ok x → test (num x) ≡ true
 
-  abbrev OfOne : (Number → NumberAnswer) → Type 0
-  OfOne f = (a x : Number) → test (num a) ≡ true → f a ≡ Number-is x → test (num x) ≡ true
+  abbrev OfOne : (Number → Result Number NumberFault) → Type 0
+  OfOne f = (a x : Number) → test (num a) ≡ true → f a ≡ Ok x → test (num x) ≡ true
 
-  two_kept : (f : Number → Number → NumberAnswer) → OfTwo f → (p q : Option Number) → NumberKept p → NumberKept q → AnswerKept (of_two f p q)
+  two_kept : (f : Number → Number → Result Number NumberFault) → OfTwo f → (p q : Option Number) → NumberKept p → NumberKept q → AnswerKept (of_two f p q)
   two_kept f k none q s t = refused
   two_kept f k (some a) none s t = refused
   two_kept f k (some a) (some b) s t = number_kept (f a b) (λ x. k a b x s t)
 
-  arith_kept : (f : Number → Number → NumberAnswer) → OfTwo f → {x y : Shape Value} → Fine x → Fine y → AnswerKept (arith f x.head y.head)
+  arith_kept : (f : Number → Number → Result Number NumberFault) → OfTwo f → {x y : Shape Value} → Fine x → Fine y → AnswerKept (arith f x.head y.head)
   unfolding arith
   arith_kept f k {x} {y} u v = two_kept f k (number_of x.head) (number_of y.head) (number_in x.head u.head) (number_in y.head v.head)
 
-  one_kept : (f : Number → NumberAnswer) (e : OperationFault) → OfOne f → (p : Option Number) → NumberKept p → AnswerKept (of_one f (bad e) p)
+  one_kept : (f : Number → Result Number NumberFault) (e : OperationFault) → OfOne f → (p : Option Number) → NumberKept p → AnswerKept (of_one f (bad e) p)
   one_kept f e k none s = refused
   one_kept f e k (some a) s = number_kept (f a) (λ x. k a x s)
 
@@ -247,17 +248,17 @@ module _ (test : Head → Bool) where
   cast_kept t k {x} u = one_kept (cast_of t) bad_cast k (number_of x.head) (number_in x.head u.head)
 
   module _ (bools : (b : Bool) → test (bool b) ≡ true) where
-    verdict_kept : (a : ComparisonAnswer) → AnswerKept (verdict a)
-    verdict_kept (comparison.Holds b) = made (scalar_fine (bool b) (bools b))
-    verdict_kept comparison.Unordered = refused
-    verdict_kept comparison.WrongKind = refused
+    verdict_kept : (a : Result Bool ComparisonFault) → AnswerKept (verdict a)
+    verdict_kept (Ok b) = made (scalar_fine (bool b) (bools b))
+    verdict_kept (Err comparison.Unordered) = refused
+    verdict_kept (Err comparison.WrongKind) = refused
 
-    compare_two_kept : (f : Number → Number → ComparisonAnswer) (p q : Option Number) → AnswerKept (compare_two f p q)
+    compare_two_kept : (f : Number → Number → Result Bool ComparisonFault) (p q : Option Number) → AnswerKept (compare_two f p q)
     compare_two_kept f none q = refused
     compare_two_kept f (some a) none = refused
     compare_two_kept f (some a) (some b) = verdict_kept (f a b)
 
-    compare_kept : (f : Number → Number → ComparisonAnswer) (h g : Head) → AnswerKept (compare f h g)
+    compare_kept : (f : Number → Number → Result Bool ComparisonFault) (h g : Head) → AnswerKept (compare f h g)
     unfolding compare
     compare_kept f h g = compare_two_kept f (number_of h) (number_of g)
 

@@ -16,11 +16,12 @@ use lib.Ieee as Ieee
 use lib.Ieee.{Format, binary32, binary64, fits, up, down}
 use lib.Ieee.Fits.{nan-fits, inf-fits, round-fits, neg-fits, add-fits, sub-fits, mul-fits, div-fits, of_int-fits, fits_widens}
 use lib.Ieee.Bits.{is_true, of_bits-fits}
+use Rattle.std.proofs.Common.{Result, Ok, Err}
 use Rattle.float_bits.specs.Nearest.{nearest_binary32}
 use Rattle.numbers.specs.declared.Number.{Number}
 use Rattle.numbers.specs.declared.Number.TheVariants.{Int}
-use Rattle.numbers.specs.declared.NumberAnswer.{NumberAnswer}
-use Rattle.numbers.specs.declared.NumberAnswer.TheVariants.{Value, Overflow, ZeroDivisor, WrongKind, InvalidCast}
+use Rattle.numbers.specs.declared.NumberFault.{NumberFault}
+use Rattle.numbers.specs.declared.NumberFault.TheVariants.{ZeroDivisor, WrongKind, InvalidCast}
 use Rattle.numbers.specs.declared.IntKind.{IntKind}
 use Rattle.numbers.specs.declared.IntKind.TheVariants.{I64, U64, I32, U32, U8, I8, U16, I16}
 use Rattle.numbers.specs.declared.CastTarget.{CastTarget}
@@ -46,14 +47,11 @@ use Rattle.definition.proofs.Keeps.{All, all_at, loads_kept}
 use Rattle.definition.proofs.KeptValues.{run_kept}
 
 -- ---- what an operation on numbers answers
-abbrev Fits : NumberAnswer → Type 0
-Fits (Value x) = scalar_fits (scalar_of x) ≡ true
-Fits Overflow = Unit {0}
-Fits ZeroDivisor = Unit {0}
-Fits WrongKind = Unit {0}
-Fits InvalidCast = Unit {0}
+abbrev Fits : Result Number NumberFault → Type 0
+Fits (Ok x) = scalar_fits (scalar_of x) ≡ true
+Fits (Err fault) = Unit {0}
 
-picks : (b : Bool) (x y : NumberAnswer) → (b ≡ true → Fits x) → Fits y → Fits (pick b x y)
+picks : (b : Bool) (x y : Result Number NumberFault) → (b ≡ true → Fits x) → Fits y → Fits (pick b x y)
 picks true x y f q = f refl
 picks false x y f q = q
 
@@ -73,13 +71,13 @@ as_kind_lem I16 z e = e
 
 checked_fits : (k : IntKind) (z : ℤ) → Fits (checked k z)
 unfolding checked
-checked_fits k z = picks (in_range k z) (Value (as_kind k z)) _ (as_kind_lem k z) tt
+checked_fits k z = picks (in_range k z) (Ok (as_kind k z)) _ (as_kind_lem k z) tt
 
 div_checked : (k : IntKind) (a b : ℤ) → Fits (checked_div k a b)
 unfolding checked_div
-div_checked k a b = picks (eqb (nat_abs b) 0) ZeroDivisor (checked k (quot_z a b)) (λ e. tt) (checked_fits k (quot_z a b))
+div_checked k a b = picks (eqb (nat_abs b) 0) (Err ZeroDivisor) (checked k (quot_z a b)) (λ e. tt) (checked_fits k (quot_z a b))
 
-arithmetic_fits : (f : IntKind → ℤ → ℤ → NumberAnswer) (g : Format → Ieee.Float → Ieee.Float → Ieee.Float) → ((k : IntKind) (a b : ℤ) → Fits (f k a
+arithmetic_fits : (f : IntKind → ℤ → ℤ → Result Number NumberFault) (g : Format → Ieee.Float → Ieee.Float → Ieee.Float) → ((k : IntKind) (a b : ℤ) → Fits (f k a
     b)) → ((d : Format) (x y : Ieee.Float) → T (fits d (g d x y)))
     → (p : ScalarPair) → Fits (arithmetic f g p)
 arithmetic_fits f g h i (integers k a b) = h k a b
@@ -121,7 +119,7 @@ as_test : {b : Bool} → b ≡ true → T b
 as_test e = subst⁻¹ T e tt
 
 negate_fits : (x : Scalar) → scalar_fits x ≡ true → Fits (negate_scalar x)
-negate_fits (integer k z) t = picks (is_signed k) (checked k (neg_ℤ z)) WrongKind (λ e. checked_fits k (neg_ℤ z)) tt
+negate_fits (integer k z) t = picks (is_signed k) (checked k (neg_ℤ z)) (Err WrongKind) (λ e. checked_fits k (neg_ℤ z)) tt
 negate_fits (double x) t = is_true (fits binary64 (Ieee.neg x)) (neg-fits binary64 x (as_test t))
 negate_fits (single x) t = is_true (fits binary32 (Ieee.neg x)) (neg-fits binary32 x (as_test t))
 
@@ -131,8 +129,8 @@ negated a t = negate_fits (scalar_of a) t
 
 cast_integer_fits : (k : IntKind) (z : ℤ) → Fits (cast_integer k z)
 unfolding cast_integer
-cast_integer_fits k z = picks (eqb (int_kind_code k) 1) (Value (Int (wrapping I64 z))) (pick (in_range k z) (Value (as_kind k z)) InvalidCast) (λ e.
-    wrapped_fits z) (picks (in_range k z) (Value (as_kind k z)) _ (as_kind_lem k z) tt)
+cast_integer_fits k z = picks (eqb (int_kind_code k) 1) (Ok (Int (wrapping I64 z))) (pick (in_range k z) (Ok (as_kind k z)) (Err InvalidCast)) (λ e.
+    wrapped_fits z) (picks (in_range k z) (Ok (as_kind k z)) _ (as_kind_lem k z) tt)
 
 as_float_fits : (x : Scalar) → scalar_fits x ≡ true → T (fits binary64 (as_float x))
 as_float_fits (integer k z) t = of_int-fits binary64 z

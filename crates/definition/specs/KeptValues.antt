@@ -1,11 +1,10 @@
 -- What every value of a run keeps. A test of heads that the constants of an image pass, and all that an instruction can make, is passed by
 -- every head of every run of the image, at any depth. One theorem; what is said of numbers, Chars, texts and chunks is an instance.
-use Rattle.std.specs.Prelude.{◌≡◌, List, [], ◌∷◌, Bool, true, ℕ, ◌≤◌, ◌<◌, ltb, length}
+use Rattle.std.specs.Prelude.{◌≡◌, List, [], ◌∷◌, Bool, true, ℕ, ◌≤◌, ◌<◌, ltb, length, Ok}
 use Rattle.std.proofs.Math.Option.{some}
 use Rattle.std.specs.Float.{binary32, binary64}
 use Rattle.std.specs.Float.Ieee.{fits}
 use Rattle.numbers.specs.declared.Number.{Number}
-use Rattle.numbers.specs.declared.NumberAnswer.TheVariants as answer
 use Rattle.numbers.specs.declared.CastTarget.{CastTarget}
 use Rattle.numbers.specs.Kinds.{in_range}
 use Rattle.numbers.specs.Scalars.{Scalar, integer, double, single, scalar_of}
@@ -57,12 +56,12 @@ pub record Closed (im : Image) (test : Head → Bool) : Type 0 where
   pub nulls : test null ≡ true
   pub bools : (b : Bool) → test (bool b) ≡ true
   pub lengths : (vs : List Value) (x : Number) → length vs ≤ 1024 → arr_len (shape arr vs) ≡ new (scalar (num x)) → test (num x) ≡ true
-  pub sums : (a b x : Number) → test (num a) ≡ true → test (num b) ≡ true → add_of a b ≡ answer.Value x → test (num x) ≡ true
-  pub differences : (a b x : Number) → test (num a) ≡ true → test (num b) ≡ true → sub_of a b ≡ answer.Value x → test (num x) ≡ true
-  pub products : (a b x : Number) → test (num a) ≡ true → test (num b) ≡ true → mul_of a b ≡ answer.Value x → test (num x) ≡ true
-  pub quotients : (a b x : Number) → test (num a) ≡ true → test (num b) ≡ true → div_of a b ≡ answer.Value x → test (num x) ≡ true
-  pub negatives : (a x : Number) → test (num a) ≡ true → negate_of a ≡ answer.Value x → test (num x) ≡ true
-  pub casts : (t : CastTarget) (a x : Number) → test (num a) ≡ true → cast_of t a ≡ answer.Value x → test (num x) ≡ true
+  pub sums : (a b x : Number) → test (num a) ≡ true → test (num b) ≡ true → add_of a b ≡ Ok x → test (num x) ≡ true
+  pub differences : (a b x : Number) → test (num a) ≡ true → test (num b) ≡ true → sub_of a b ≡ Ok x → test (num x) ≡ true
+  pub products : (a b x : Number) → test (num a) ≡ true → test (num b) ≡ true → mul_of a b ≡ Ok x → test (num x) ≡ true
+  pub quotients : (a b x : Number) → test (num a) ≡ true → test (num b) ≡ true → div_of a b ≡ Ok x → test (num x) ≡ true
+  pub negatives : (a x : Number) → test (num a) ≡ true → negate_of a ≡ Ok x → test (num x) ≡ true
+  pub casts : (t : CastTarget) (a x : Number) → test (num a) ≡ true → cast_of t a ≡ Ok x → test (num x) ≡ true
   pub arrs : test arr ≡ true
   pub tuples : test tuple ≡ true
   pub oks : test ok ≡ true

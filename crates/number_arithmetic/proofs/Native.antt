@@ -11,7 +11,8 @@ use borrow.Author.Tests.{lt-ltb, le-ltb, le-leb, ltb-true}
 use mir.Syntax.{w64}
 use mir.Val.{SFits, to_z, of_z}
 use mir.Facts.{to_z-of_z}
-use Rattle.numbers.specs.declared.NumberAnswer.TheVariants.{Value, Overflow}
+use Rattle.std.proofs.Common.{Ok, Err}
+use Rattle.numbers.specs.declared.NumberFault.TheVariants.{Overflow}
 use Rattle.numbers.specs.declared.Number.TheVariants.{Int}
 use Rattle.numbers.specs.declared.IntKind.TheVariants.{I64}
 use Rattle.numbers.specs.Kinds.{in_range}
@@ -72,8 +73,8 @@ down H (suc n) (negsuc m) a b = sym (sub_ind (suc n) H (λ (z : ℤ). le_z z (ne
 pub record Tested (edge : ℤ) (test : Bool) (z m : ℤ) : Type 0 where
   pub edge_fits : SFits w64 edge
   pub fits : test ≡ true → SFits w64 m
-  pub exact : test ≡ true → Value (Int (to_z w64 (of_z w64 m))) ≡ checked I64 z
-  pub over : test ≡ false → Overflow ≡ checked I64 z
+  pub exact : test ≡ true → Ok (Int (to_z w64 (of_z w64 m))) ≡ checked I64 z
+  pub over : test ≡ false → Err Overflow ≡ checked I64 z
 
 in_range_64 : (z : ℤ) → in_range I64 z ≡ ltb (mag z) (2 ^ 63)
 in_range_64 (pos n) = sym (leb-suc-suc n (2 ^ 63 - 1))
@@ -84,9 +85,9 @@ unfolding checked
 tested edge test z f e = record {
   edge_fits = f;
   fits = λ t. record { sfits = ltb-true _ _ (e ∙ t) };
-  exact = λ t. ap (λ (y : ℤ). Value (Int y)) (to_z-of_z {w = w64} (record { sfits = ltb-true _ _ (e ∙ t) }))
-      ∙ sym (ap (λ (b : Bool). pick b (Value (Int z)) Overflow) (in_range_64 z ∙ e ∙ t));
-  over = λ t. sym (ap (λ (b : Bool). pick b (Value (Int z)) Overflow) (in_range_64 z ∙ e ∙ t));
+  exact = λ t. ap (λ (y : ℤ). Ok (Int y)) (to_z-of_z {w = w64} (record { sfits = ltb-true _ _ (e ∙ t) }))
+      ∙ sym (ap (λ (b : Bool). pick b (Ok (Int z)) (Err Overflow)) (in_range_64 z ∙ e ∙ t));
+  over = λ t. sym (ap (λ (b : Bool). pick b (Ok (Int z)) (Err Overflow)) (in_range_64 z ∙ e ∙ t));
 }
 
 edge_mag : (a b : ℕ) → a ≤ 2 ^ 63 → b ≤ 2 ^ 63 → a < 2 ^ 63 ⊎ b ≡ 2 ^ 63 → mag (sub_ℕ a b) < 2 ^ 63

@@ -7,7 +7,8 @@ use lib.Signed.{mag}
 use mir.Syntax.{Width}
 use mir.Val.{SFits, to_z, of_z, hbits}
 use mir.Facts.{to_z-of_z}
-use Rattle.numbers.specs.declared.NumberAnswer.TheVariants.{Value, Overflow}
+use Rattle.std.proofs.Common.{Ok, Err}
+use Rattle.numbers.specs.declared.NumberFault.TheVariants.{Overflow}
 use Rattle.numbers.specs.declared.IntKind.{IntKind}
 use Rattle.numbers.specs.Kinds.{is_signed, bits_of, least, in_range, as_kind}
 use Rattle.numbers.specs.Arithmetic.{negate_of}
@@ -17,7 +18,7 @@ use Rattle.numbers.proofs.NegateInRange.{neg_in, negate_in_range}
 -- the kind k in the width u, whose least number has the bits b; x is a number of it
 module _ (k : IntKind) (u : Width) (b : ℕ) (s : is_signed k ≡ true) (w : hbits u ≡ bits_of k - 1) (to : of_z u (least k) ≡ b) (from : to_z u b ≡ least k) (x : ℤ)
     (f : SFits u x) where
-  pub over : of_z u x ≡ b → Overflow ≡ negate_of (as_kind k x)
+  pub over : of_z u x ≡ b → Err Overflow ≡ negate_of (as_kind k x)
   over e = sym (ap (λ (z : ℤ). negate_of (as_kind k z)) (sym (to_z-of_z f) ∙ ap (to_z u) e ∙ from) ∙ (negate_in_range k s).0)
 
   module _ (d : of_z u x ≡ b → ⊥) where
@@ -36,5 +37,5 @@ module _ (k : IntKind) (u : Width) (b : ℕ) (s : is_signed k ≡ true) (w : hbi
         subst (λ (z : ℤ). SFits u z) (sym from_zero)
         (record { sfits = subst⁻¹ (λ (n : ℕ). mag (neg_ℤ x) < 2 ^ n) w (in_signed k (neg_ℤ x) s (neg_in k x s within other)) })
 
-    pub exact : Value (as_kind k (to_z u (of_z u (pos 0 -ℤ to_z u (of_z u x))))) ≡ negate_of (as_kind k x)
-    exact = ap (λ (z : ℤ). Value (as_kind k z)) (to_z-of_z negative_fits ∙ from_zero) ∙ sym ((negate_in_range k s).1 x within other)
+    pub exact : Ok (as_kind k (to_z u (of_z u (pos 0 -ℤ to_z u (of_z u x))))) ≡ negate_of (as_kind k x)
+    exact = ap (λ (z : ℤ). Ok (as_kind k z)) (to_z-of_z negative_fits ∙ from_zero) ∙ sym ((negate_in_range k s).1 x within other)

@@ -5,41 +5,41 @@ ghost use Rattle.number_operands.specs.Operands.{value_of};
 ghost use Rattle.numbers.specs.Arithmetic.{checked as checked_of, checked_div, add_of, sub_of, mul_of, div_of};
 
 use number_operands::{OperandPair, SignMagnitude, checked, pair_of};
-use numbers::{IntKind, Number, NumberAnswer};
+use numbers::{IntKind, Number, NumberFault};
 
-fn add_int(x: i64, y: i64) -> NumberAnswer
+fn add_int(x: i64, y: i64) -> Result<Number, NumberFault>
     ensures { result ≡ checked_of I64 (x +ℤ y) }
 {
     if y >= 0 {
         if x <= 9223372036854775807 - y {
-            NumberAnswer::Value(Number::Int(x + y))
+            Ok(Number::Int(x + y))
         } else {
-            NumberAnswer::Overflow
+            Err(NumberFault::Overflow)
         }
     } else if -9223372036854775808 - y <= x {
-        NumberAnswer::Value(Number::Int(x + y))
+        Ok(Number::Int(x + y))
     } else {
-        NumberAnswer::Overflow
+        Err(NumberFault::Overflow)
     }
 }
 
-fn sub_int(x: i64, y: i64) -> NumberAnswer
+fn sub_int(x: i64, y: i64) -> Result<Number, NumberFault>
     ensures { result ≡ checked_of I64 (x -ℤ y) }
 {
     if y >= 0 {
         if -9223372036854775808 + y <= x {
-            NumberAnswer::Value(Number::Int(x - y))
+            Ok(Number::Int(x - y))
         } else {
-            NumberAnswer::Overflow
+            Err(NumberFault::Overflow)
         }
     } else if x <= 9223372036854775807 + y {
-        NumberAnswer::Value(Number::Int(x - y))
+        Ok(Number::Int(x - y))
     } else {
-        NumberAnswer::Overflow
+        Err(NumberFault::Overflow)
     }
 }
 
-fn add_integers(kind: IntKind, a: SignMagnitude, b: SignMagnitude) -> NumberAnswer
+fn add_integers(kind: IntKind, a: SignMagnitude, b: SignMagnitude) -> Result<Number, NumberFault>
     ensures { result ≡ checked_of kind (value_of a +ℤ value_of b) }
 {
     let m = a.magnitude;
@@ -56,7 +56,7 @@ fn add_integers(kind: IntKind, a: SignMagnitude, b: SignMagnitude) -> NumberAnsw
                 },
             )
         } else {
-            NumberAnswer::Overflow
+            Err(NumberFault::Overflow)
         }
     } else if n <= m {
         checked(
@@ -77,7 +77,7 @@ fn add_integers(kind: IntKind, a: SignMagnitude, b: SignMagnitude) -> NumberAnsw
     }
 }
 
-fn sub_integers(kind: IntKind, a: SignMagnitude, b: SignMagnitude) -> NumberAnswer
+fn sub_integers(kind: IntKind, a: SignMagnitude, b: SignMagnitude) -> Result<Number, NumberFault>
     ensures { result ≡ checked_of kind (value_of a -ℤ value_of b) }
 {
     let t = b.negative;
@@ -93,7 +93,7 @@ fn sub_integers(kind: IntKind, a: SignMagnitude, b: SignMagnitude) -> NumberAnsw
 }
 
 // A product of magnitudes below 2^64 needs up to 128 bits: it is past every kind where it does not fit 64.
-fn mul_integers(kind: IntKind, a: SignMagnitude, b: SignMagnitude) -> NumberAnswer
+fn mul_integers(kind: IntKind, a: SignMagnitude, b: SignMagnitude) -> Result<Number, NumberFault>
     ensures { result ≡ checked_of kind (value_of a *ℤ value_of b) }
 {
     let m = a.magnitude;
@@ -118,11 +118,11 @@ fn mul_integers(kind: IntKind, a: SignMagnitude, b: SignMagnitude) -> NumberAnsw
             },
         )
     } else {
-        NumberAnswer::Overflow
+        Err(NumberFault::Overflow)
     }
 }
 
-fn div_integers(kind: IntKind, a: SignMagnitude, b: SignMagnitude) -> NumberAnswer
+fn div_integers(kind: IntKind, a: SignMagnitude, b: SignMagnitude) -> Result<Number, NumberFault>
     ensures { result ≡ checked_div kind (value_of a) (value_of b) }
 {
     let m = a.magnitude;
@@ -130,7 +130,7 @@ fn div_integers(kind: IntKind, a: SignMagnitude, b: SignMagnitude) -> NumberAnsw
     let s = a.negative;
     let t = b.negative;
     if n == 0 {
-        NumberAnswer::ZeroDivisor
+        Err(NumberFault::ZeroDivisor)
     } else {
         checked(
             kind,
@@ -142,31 +142,31 @@ fn div_integers(kind: IntKind, a: SignMagnitude, b: SignMagnitude) -> NumberAnsw
     }
 }
 
-fn add_any(a: Number, b: Number) -> NumberAnswer
+fn add_any(a: Number, b: Number) -> Result<Number, NumberFault>
     ensures { result ≡ add_of a b }
 {
     match pair_of(a, b) {
         OperandPair::Integers(k, p, q) => add_integers(k, p, q),
-        OperandPair::Doubles(p, q) => NumberAnswer::Value(Number::Float(p + q)),
-        OperandPair::Singles(p, q) => NumberAnswer::Value(Number::SFloat(p + q)),
-        OperandPair::Mixed => NumberAnswer::WrongKind,
+        OperandPair::Doubles(p, q) => Ok(Number::Float(p + q)),
+        OperandPair::Singles(p, q) => Ok(Number::SFloat(p + q)),
+        OperandPair::Mixed => Err(NumberFault::WrongKind),
     }
 }
 
-fn sub_any(a: Number, b: Number) -> NumberAnswer
+fn sub_any(a: Number, b: Number) -> Result<Number, NumberFault>
     ensures { result ≡ sub_of a b }
 {
     match pair_of(a, b) {
         OperandPair::Integers(k, p, q) => sub_integers(k, p, q),
-        OperandPair::Doubles(p, q) => NumberAnswer::Value(Number::Float(p - q)),
-        OperandPair::Singles(p, q) => NumberAnswer::Value(Number::SFloat(p - q)),
-        OperandPair::Mixed => NumberAnswer::WrongKind,
+        OperandPair::Doubles(p, q) => Ok(Number::Float(p - q)),
+        OperandPair::Singles(p, q) => Ok(Number::SFloat(p - q)),
+        OperandPair::Mixed => Err(NumberFault::WrongKind),
     }
 }
 
 // An enum is handed to a function by its address. `add` and `sub` hand copies to the shared way and take its answer into a local, so that the
 // operands and the answer of two Ints, which their caller has in registers, need no memory.
-pub fn add(a: Number, b: Number) -> NumberAnswer
+pub fn add(a: Number, b: Number) -> Result<Number, NumberFault>
     ensures { result ≡ add_of a b }
 {
     match a {
@@ -188,7 +188,7 @@ pub fn add(a: Number, b: Number) -> NumberAnswer
     }
 }
 
-pub fn sub(a: Number, b: Number) -> NumberAnswer
+pub fn sub(a: Number, b: Number) -> Result<Number, NumberFault>
     ensures { result ≡ sub_of a b }
 {
     match a {
@@ -210,24 +210,24 @@ pub fn sub(a: Number, b: Number) -> NumberAnswer
     }
 }
 
-pub fn mul(a: Number, b: Number) -> NumberAnswer
+pub fn mul(a: Number, b: Number) -> Result<Number, NumberFault>
     ensures { result ≡ mul_of a b }
 {
     match pair_of(a, b) {
         OperandPair::Integers(k, p, q) => mul_integers(k, p, q),
-        OperandPair::Doubles(p, q) => NumberAnswer::Value(Number::Float(p * q)),
-        OperandPair::Singles(p, q) => NumberAnswer::Value(Number::SFloat(p * q)),
-        OperandPair::Mixed => NumberAnswer::WrongKind,
+        OperandPair::Doubles(p, q) => Ok(Number::Float(p * q)),
+        OperandPair::Singles(p, q) => Ok(Number::SFloat(p * q)),
+        OperandPair::Mixed => Err(NumberFault::WrongKind),
     }
 }
 
-pub fn div(a: Number, b: Number) -> NumberAnswer
+pub fn div(a: Number, b: Number) -> Result<Number, NumberFault>
     ensures { result ≡ div_of a b }
 {
     match pair_of(a, b) {
         OperandPair::Integers(k, p, q) => div_integers(k, p, q),
-        OperandPair::Doubles(p, q) => NumberAnswer::Value(Number::Float(p / q)),
-        OperandPair::Singles(p, q) => NumberAnswer::Value(Number::SFloat(p / q)),
-        OperandPair::Mixed => NumberAnswer::WrongKind,
+        OperandPair::Doubles(p, q) => Ok(Number::Float(p / q)),
+        OperandPair::Singles(p, q) => Ok(Number::SFloat(p / q)),
+        OperandPair::Mixed => Err(NumberFault::WrongKind),
     }
 }

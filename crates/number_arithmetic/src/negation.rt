@@ -3,49 +3,49 @@ ghost use Rattle.std.specs.Prelude.{◌≡◌};
 ghost use Rattle.numbers.specs.declared.Number.TheVariants.{Int, SInt, BSByte, SByte};
 ghost use Rattle.numbers.specs.Arithmetic.{negate_of};
 
-use numbers::{Number, NumberAnswer};
+use numbers::{Number, NumberFault};
 
-fn negate_int(x: i64) -> NumberAnswer
+fn negate_int(x: i64) -> Result<Number, NumberFault>
     ensures { result ≡ negate_of (Int x) }
 {
     if x == -9223372036854775808 {
-        NumberAnswer::Overflow
+        Err(NumberFault::Overflow)
     } else {
-        NumberAnswer::Value(Number::Int(-x))
+        Ok(Number::Int(-x))
     }
 }
 
-fn negate_sint(x: i32) -> NumberAnswer
+fn negate_sint(x: i32) -> Result<Number, NumberFault>
     ensures { result ≡ negate_of (SInt x) }
 {
     if x == -2147483648 {
-        NumberAnswer::Overflow
+        Err(NumberFault::Overflow)
     } else {
-        NumberAnswer::Value(Number::SInt(-x))
+        Ok(Number::SInt(-x))
     }
 }
 
-fn negate_bsbyte(x: i16) -> NumberAnswer
+fn negate_bsbyte(x: i16) -> Result<Number, NumberFault>
     ensures { result ≡ negate_of (BSByte x) }
 {
     if x == -32768 {
-        NumberAnswer::Overflow
+        Err(NumberFault::Overflow)
     } else {
-        NumberAnswer::Value(Number::BSByte(-x))
+        Ok(Number::BSByte(-x))
     }
 }
 
-fn negate_sbyte(x: i8) -> NumberAnswer
+fn negate_sbyte(x: i8) -> Result<Number, NumberFault>
     ensures { result ≡ negate_of (SByte x) }
 {
     if x == -128 {
-        NumberAnswer::Overflow
+        Err(NumberFault::Overflow)
     } else {
-        NumberAnswer::Value(Number::SByte(-x))
+        Ok(Number::SByte(-x))
     }
 }
 
-pub fn negate(a: Number) -> NumberAnswer
+pub fn negate(a: Number) -> Result<Number, NumberFault>
     ensures { result ≡ negate_of a }
 {
     match a {
@@ -53,11 +53,11 @@ pub fn negate(a: Number) -> NumberAnswer
         Number::SInt(x) => negate_sint(x),
         Number::BSByte(x) => negate_bsbyte(x),
         Number::SByte(x) => negate_sbyte(x),
-        Number::Float(x) => NumberAnswer::Value(Number::Float(-x)),
-        Number::SFloat(x) => NumberAnswer::Value(Number::SFloat(-x)),
-        Number::UInt(_) => NumberAnswer::WrongKind,
-        Number::SUInt(_) => NumberAnswer::WrongKind,
-        Number::Byte(_) => NumberAnswer::WrongKind,
-        Number::BByte(_) => NumberAnswer::WrongKind,
+        Number::Float(x) => Ok(Number::Float(-x)),
+        Number::SFloat(x) => Ok(Number::SFloat(-x)),
+        Number::UInt(_) => Err(NumberFault::WrongKind),
+        Number::SUInt(_) => Err(NumberFault::WrongKind),
+        Number::Byte(_) => Err(NumberFault::WrongKind),
+        Number::BByte(_) => Err(NumberFault::WrongKind),
     }
 }

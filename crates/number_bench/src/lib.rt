@@ -8,7 +8,7 @@ ghost use Rattle.numbers.specs.Arithmetic.{add_of, sub_of, mul_of};
 ghost use Rattle.number_codes.specs.Payloads.{payload_of};
 ghost use Rattle.number_bench.specs.Turns.{number_at, Gives, steps, pace_of, count_on, value_or, there_and_back};
 
-use numbers::{CastTarget, ComparisonAnswer, IntKind, Number, NumberAnswer};
+use numbers::{CastTarget, ComparisonFault, IntKind, Number, NumberFault};
 
 fn number(kind: u8, word: u64) -> Number
     ensures { result ≡ number_at kind word }
@@ -17,26 +17,19 @@ fn number(kind: u8, word: u64) -> Number
 }
 
 // The value, or where there is none x.
-fn value_or(answer: NumberAnswer, x: Number) -> Number
+fn value_or(answer: Result<Number, NumberFault>, x: Number) -> Number
     ensures { result ≡ value_or answer x }
 {
-    match answer {
-        NumberAnswer::Value(y) => y,
-        NumberAnswer::Overflow => x,
-        NumberAnswer::ZeroDivisor => x,
-        NumberAnswer::WrongKind => x,
-        NumberAnswer::InvalidCast => x,
-    }
+    answer.unwrap_or(x)
 }
 
 // How far to count: three where the comparison holds.
-fn pace(answer: ComparisonAnswer) -> u64
+fn pace(answer: Result<bool, ComparisonFault>) -> u64
     ensures { result ≡ pace_of answer }
 {
     match answer {
-        ComparisonAnswer::Holds(b) => if b { 3 } else { 1 },
-        ComparisonAnswer::Unordered => 1,
-        ComparisonAnswer::WrongKind => 1,
+        Ok(true) => 3,
+        _ => 1,
     }
 }
 
@@ -50,7 +43,7 @@ pub extern "C" fn bench_add(n: u64, kind: u8, first: u64, second: u64, last: &mu
     let operand = number(kind, second);
     while i < n {
         match number_arithmetic::add(acc, operand) {
-            NumberAnswer::Value(y) => {
+            Ok(y) => {
                 acc = y;
             }
             _ => {
@@ -72,7 +65,7 @@ pub extern "C" fn bench_sub(n: u64, kind: u8, first: u64, second: u64, last: &mu
     let operand = number(kind, second);
     while i < n {
         match number_arithmetic::sub(acc, operand) {
-            NumberAnswer::Value(y) => {
+            Ok(y) => {
                 acc = y;
             }
             _ => {
@@ -94,7 +87,7 @@ pub extern "C" fn bench_mul(n: u64, kind: u8, first: u64, second: u64, last: &mu
     let operand = number(kind, second);
     while i < n {
         match number_arithmetic::mul(acc, operand) {
-            NumberAnswer::Value(y) => {
+            Ok(y) => {
                 acc = y;
             }
             _ => {

@@ -1,5 +1,5 @@
 -- Casts: the low 64 bits, the range, the whole part of a float held to 128 bits, and an integer as an f64. Assumes nothing.
-use Rattle.std.proofs.Common.{◌≡◌, ℕ, zero, suc, ◌+◌, ◌-◌, ◌*◌, ◌/◌, ◌%◌, ◌^◌, ◌<◌, ◌≤◌, min, Bool, true, false, cond, not, T, eqb, ltb, leb, ℤ, pos, neg_ℤ, sym, refl, ap, ◌∙◌, subst, le_trans, lt_of_lt_of_le, le_of_lt, arith, lit≤, ltb→lt, nltb→le, eq-eqb, ne_eqb}
+use Rattle.std.proofs.Common.{◌≡◌, ℕ, zero, suc, ◌+◌, ◌-◌, ◌*◌, ◌/◌, ◌%◌, ◌^◌, ◌<◌, ◌≤◌, min, Bool, true, false, cond, not, T, eqb, ltb, leb, ℤ, pos, neg_ℤ, sym, refl, ap, ◌∙◌, subst, le_trans, lt_of_lt_of_le, le_of_lt, arith, lit≤, ltb→lt, nltb→le, eq-eqb, ne_eqb, Ok, Err}
 use lib.Count.{count_trailing_zeros}
 use lib.Ieee.{Format, prec, emax, low, size, units, round, neg, of_int, Float, nan, inf, fin, binary64, up, down, minus, odd, fits, of_fields, of_bits, to_bits, to_unsigned, to_signed}
 use lib.Ieee.Bits.{of_bits-to_bits}
@@ -9,7 +9,7 @@ use borrow.Author.Tests.{lt-leb}
 use Rattle.numbers.specs.declared.CastTarget.{CastTarget}
 use Rattle.numbers.specs.declared.Number.{Number}
 use Rattle.numbers.specs.declared.Number.TheVariants.{Int}
-use Rattle.numbers.specs.declared.NumberAnswer.TheVariants.{Value, InvalidCast}
+use Rattle.numbers.specs.declared.NumberFault.TheVariants.{InvalidCast}
 use Rattle.numbers.specs.declared.IntKind.{IntKind}
 use Rattle.numbers.specs.declared.IntKind.TheVariants.{I64, U64}
 use Rattle.number_casts.specs.declared.WholePart.{WholePart}
@@ -25,22 +25,22 @@ use Rattle.numbers.proofs.Wrap.{wrapping_word, wrapping_in, low_of_64, neg_word}
 
 -- ---- the three ways of a cast to an integer kind, for the integer z with the word w
 module _ (k : IntKind) (z : ℤ) (w : ℕ) (word : w ≡ low_bits 64 z) {m : ℕ} (code : m ≡ int_kind_code k) where
-  pub cast_int : m ≡ 1 → Value (as_kind I64 (wrapping I64 (pos w))) ≡ cast_integer k z
+  pub cast_int : m ≡ 1 → Ok (as_kind I64 (wrapping I64 (pos w))) ≡ cast_integer k z
   unfolding cast_integer
   cast_int h =
-      ap (λ (y : ℤ). Value (Int y)) (wrapping_word I64 z word)
-      ∙ sym (ap (λ (b : Bool). pick b (Value (Int (wrapping I64 z))) (pick (in_range k z) (Value (as_kind k z)) InvalidCast)) (eq-eqb (int_kind_code k) 1 (sym code ∙ h)))
+      ap (λ (y : ℤ). Ok (Int y)) (wrapping_word I64 z word)
+      ∙ sym (ap (λ (b : Bool). pick b (Ok (Int (wrapping I64 z))) (pick (in_range k z) (Ok (as_kind k z)) (Err InvalidCast))) (eq-eqb (int_kind_code k) 1 (sym code ∙ h)))
 
-  cast_other : (b : Bool) → (m ≡ 1 → ⊥) → in_range k z ≡ b → pick b (Value (as_kind k z)) InvalidCast ≡ cast_integer k z
+  cast_other : (b : Bool) → (m ≡ 1 → ⊥) → in_range k z ≡ b → pick b (Ok (as_kind k z)) (Err InvalidCast) ≡ cast_integer k z
   unfolding cast_integer
   cast_other b h r =
-      sym (ap (λ (a : Bool). pick a (Value (Int (wrapping I64 z))) (pick (in_range k z) (Value (as_kind k z)) InvalidCast)) (ne_eqb (int_kind_code k) 1 (λ q. h (code ∙ q)))
-      ∙ ap (λ (a : Bool). pick a (Value (as_kind k z)) InvalidCast) r)
+      sym (ap (λ (a : Bool). pick a (Ok (Int (wrapping I64 z))) (pick (in_range k z) (Ok (as_kind k z)) (Err InvalidCast))) (ne_eqb (int_kind_code k) 1 (λ q. h (code ∙ q)))
+      ∙ ap (λ (a : Bool). pick a (Ok (as_kind k z)) (Err InvalidCast)) r)
 
-  pub cast_fits : (m ≡ 1 → ⊥) → in_range k z ≡ true → Value (as_kind k (wrapping k (pos w))) ≡ cast_integer k z
-  cast_fits h r = ap (λ (y : ℤ). Value (as_kind k y)) (wrapping_word k z word ∙ wrapping_in k z r) ∙ cast_other true h r
+  pub cast_fits : (m ≡ 1 → ⊥) → in_range k z ≡ true → Ok (as_kind k (wrapping k (pos w))) ≡ cast_integer k z
+  cast_fits h r = ap (λ (y : ℤ). Ok (as_kind k y)) (wrapping_word k z word ∙ wrapping_in k z r) ∙ cast_other true h r
 
-  pub cast_invalid : (m ≡ 1 → ⊥) → in_range k z ≡ false → InvalidCast ≡ cast_integer k z
+  pub cast_invalid : (m ≡ 1 → ⊥) → in_range k z ≡ false → Err InvalidCast ≡ cast_integer k z
   cast_invalid h r = cast_other false h r
 
 -- ---- which whole part it was

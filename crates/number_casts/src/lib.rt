@@ -12,7 +12,7 @@ ghost use Rattle.number_casts.specs.Whole.{whole_part_of};
 use number_operands::{
     Operand, SignMagnitude, in_range, int_kind_code, number_of_word, operand_of, word_of,
 };
-use numbers::{CastTarget, IntKind, Number, NumberAnswer};
+use numbers::{CastTarget, IntKind, Number, NumberFault};
 
 // The whole part of a float's magnitude: itself below 2^64, its low 64 bits below 2^127, or too large for 128 bits with a sign.
 #[derive(Clone, Copy)]
@@ -53,26 +53,26 @@ fn whole_part(b: u64) -> WholePart
 }
 
 // The cast of an integer z to an integer kind, by the low 64 bits of z and whether the kind's range holds it.
-fn cast_word(kind: IntKind, fits: bool, w: u64) -> NumberAnswer
+fn cast_word(kind: IntKind, fits: bool, w: u64) -> Result<Number, NumberFault>
     ensures { (z : ℤ) → w ≡ low_bits 64 z → fits ≡ in_range kind z → result ≡ cast_integer kind z }
 {
     if int_kind_code(kind) == 1 {
-        NumberAnswer::Value(number_of_word(IntKind::I64, w))
+        Ok(number_of_word(IntKind::I64, w))
     } else if fits {
-        NumberAnswer::Value(number_of_word(kind, w))
+        Ok(number_of_word(kind, w))
     } else {
-        NumberAnswer::InvalidCast
+        Err(NumberFault::InvalidCast)
     }
 }
 
-fn cast_integer(kind: IntKind, x: SignMagnitude) -> NumberAnswer
+fn cast_integer(kind: IntKind, x: SignMagnitude) -> Result<Number, NumberFault>
     ensures { result ≡ cast_integer kind (value_of x) }
 {
     cast_word(kind, in_range(kind, x), word_of(x))
 }
 
 // A whole part from 2^64 on is past every kind's range. At the ends of 128 bits the low 64 bits are those of -2^127 and of 2^127 - 1.
-fn cast_truncated(kind: IntKind, x: f64) -> NumberAnswer
+fn cast_truncated(kind: IntKind, x: f64) -> Result<Number, NumberFault>
     ensures { result ≡ cast_integer kind (Ieee.to_signed 127 x) }
 {
     let b = float_bits::word_of_f64(x);
@@ -119,27 +119,25 @@ fn nearest_f64(x: SignMagnitude) -> f64
     }
 }
 
-fn cast_from_integer(target: CastTarget, x: SignMagnitude) -> NumberAnswer
+fn cast_from_integer(target: CastTarget, x: SignMagnitude) -> Result<Number, NumberFault>
     ensures { result ≡ cast_to target (value_of x) (Ieee.of_int binary64 (value_of x)) }
 {
     match target {
         CastTarget::ToInteger(k) => cast_integer(k, x),
-        CastTarget::ToFloat => NumberAnswer::Value(Number::Float(nearest_f64(x))),
+        CastTarget::ToFloat => Ok(Number::Float(nearest_f64(x))),
         CastTarget::ToSFloat => {
-            NumberAnswer::Value(Number::SFloat(float_bits::nearest_f64_to_f32(nearest_f64(x))))
+            Ok(Number::SFloat(float_bits::nearest_f64_to_f32(nearest_f64(x))))
         }
     }
 }
 
-fn cast_from_float(target: CastTarget, x: f64) -> NumberAnswer
+fn cast_from_float(target: CastTarget, x: f64) -> Result<Number, NumberFault>
     ensures { result ≡ cast_to target (Ieee.to_signed 127 x) x }
 {
     match target {
         CastTarget::ToInteger(k) => cast_truncated(k, x),
-        CastTarget::ToFloat => NumberAnswer::Value(Number::Float(x)),
-        CastTarget::ToSFloat => {
-            NumberAnswer::Value(Number::SFloat(float_bits::nearest_f64_to_f32(x)))
-        }
+        CastTarget::ToFloat => Ok(Number::Float(x)),
+        CastTarget::ToSFloat => { Ok(Number::SFloat(float_bits::nearest_f64_to_f32(x))) }
     }
 }
 
@@ -192,7 +190,7 @@ pub fn float_to_int_word(p: u64) -> u64
     low_word(float_bits::f64_of_word(p))
 }
 
-pub fn cast(target: CastTarget, a: Number) -> NumberAnswer
+pub fn cast(target: CastTarget, a: Number) -> Result<Number, NumberFault>
     ensures { result ≡ cast_of target a }
 {
     match operand_of(a) {

@@ -5,7 +5,7 @@ ghost use Rattle.number_operands.specs.Operands.{value_of};
 ghost use Rattle.numbers.specs.Arithmetic.{checked as checked_of};
 
 use super::SignMagnitude;
-use numbers::{IntKind, Number, NumberAnswer};
+use numbers::{IntKind, Number, NumberFault};
 
 pub fn int_kind_code(kind: IntKind) -> u8
     ensures { result ≡ int_kind_code kind }
@@ -150,12 +150,12 @@ pub fn number_of_word(kind: IntKind, n: u64) -> Number
 }
 
 // The number x of the kind, or 37 where it is out of range.
-pub fn checked(kind: IntKind, x: SignMagnitude) -> NumberAnswer
+pub fn checked(kind: IntKind, x: SignMagnitude) -> Result<Number, NumberFault>
     ensures { result ≡ checked_of kind (value_of x) }
 {
     if in_range(kind, x) {
-        NumberAnswer::Value(number_of_word(kind, word_of(x)))
+        Ok(number_of_word(kind, word_of(x)))
     } else {
-        NumberAnswer::Overflow
+        Err(NumberFault::Overflow)
     }
 }

@@ -9,7 +9,7 @@
 ghost use Rattle.std.specs.Prelude.{◌≡◌, ◌<◌, ◌≤◌};
 ghost use Rattle.std.specs.Io.{ReadsAtMost};
 
-use numbers::{ComparisonAnswer, Number, NumberAnswer};
+use numbers::{ComparisonFault, Number, NumberFault};
 use std::io;
 use std::io::Read;
 
@@ -28,10 +28,10 @@ enum Worked {
     Malformed,
 }
 
-fn number_coded(answer: NumberAnswer) -> Worked {
+fn number_coded(answer: Result<Number, NumberFault>) -> Worked {
     let fault = wide(numbers::fault_number(answer));
     match answer {
-        NumberAnswer::Value(x) => Worked::Answer(Coded {
+        Ok(x) => Worked::Answer(Coded {
             kind: wide(number_operands::kind_code(x)),
             word: number_codes::payload_of(x),
         }),
@@ -42,10 +42,10 @@ fn number_coded(answer: NumberAnswer) -> Worked {
     }
 }
 
-fn comparison_coded(answer: ComparisonAnswer) -> Worked {
+fn comparison_coded(answer: Result<bool, ComparisonFault>) -> Worked {
     let fault = wide(numbers::comparison_fault(answer));
     match answer {
-        ComparisonAnswer::Holds(b) => Worked::Answer(Coded {
+        Ok(b) => Worked::Answer(Coded {
             kind: 7,
             word: if b { 1 } else { 0 },
         }),

@@ -12,8 +12,9 @@ use lib.Ieee.{unlike}
 use lib.IntN.{ℤ, pos, negsuc, neg_ℤ, sub_ℕ, ◌+ℤ◌, ◌-ℤ◌, ◌*ℤ◌}
 use lib.Signed.{lt_z}
 use borrow.Author.Tests.{lt-ltb, le-ltb, le-leb, lt-leb, ne_eqb, eqb-true}
+use Rattle.std.proofs.Common.{Ok, Err}
 use Rattle.numbers.specs.declared.Number.TheVariants.{UInt}
-use Rattle.numbers.specs.declared.NumberAnswer.TheVariants.{Value, Overflow}
+use Rattle.numbers.specs.declared.NumberFault.TheVariants.{Overflow}
 use Rattle.numbers.specs.declared.IntKind.{IntKind}
 use Rattle.numbers.specs.declared.IntKind.TheVariants.{I64, U64, I32, U32, U8, I8, U16, I16}
 use Rattle.numbers.specs.Kinds.{int_kind_code, least_magnitude, greatest, in_range, as_kind, twos_complement, wrapping}
@@ -187,22 +188,22 @@ module _ (k : IntKind) (n : NarrowKind) (i : IsOf k n) where
       go false x y = let h = y tt in omega arith
 
   -- ---- the answer at a place, and none
-  pub at_place : (z : ℤ) (Z w : ℕ) → z ≡ sub_ℕ Z n.negatives → Z < n.numbers → w ≡ turn n Z → Value (as_kind k (wrapping k (pos w))) ≡ checked k z
+  pub at_place : (z : ℤ) (Z w : ℕ) → z ≡ sub_ℕ Z n.negatives → Z < n.numbers → w ≡ turn n Z → Ok (as_kind k (wrapping k (pos w))) ≡ checked k z
   unfolding checked
   at_place z Z w e l h =
       let v : wrapping k (pos w) ≡ z = ap (λ (x : ℕ). wrapping k (pos x)) h ∙ value_at k n (turn n Z) i (turn_less Z l) ∙ ap (λ (x : ℕ). sub_ℕ x n.negatives)
       (turned_back Z l) ∙ sym e in
       let r : in_range k z ≡ true = ap (in_range k) e ∙ in_range_lem Z l in
-      ap (λ (x : ℤ). Value (as_kind k x)) v ∙ sym (ap (λ (t : Bool). pick t (Value (as_kind k z)) Overflow) r)
+      ap (λ (x : ℤ). Ok (as_kind k x)) v ∙ sym (ap (λ (t : Bool). pick t (Ok (as_kind k z)) (Err Overflow)) r)
 
-  none_at : (z : ℤ) → in_range k z ≡ false → Overflow ≡ checked k z
+  none_at : (z : ℤ) → in_range k z ≡ false → Err Overflow ≡ checked k z
   unfolding checked
-  none_at z r = sym (ap (λ (t : Bool). pick t (Value (as_kind k z)) Overflow) r)
+  none_at z r = sym (ap (λ (t : Bool). pick t (Ok (as_kind k z)) (Err Overflow)) r)
 
-  pub below_all : (z : ℤ) (S c : ℕ) → z ≡ sub_ℕ S c → S + n.negatives < c → Overflow ≡ checked k z
+  pub below_all : (z : ℤ) (S c : ℕ) → z ≡ sub_ℕ S c → S + n.negatives < c → Err Overflow ≡ checked k z
   below_all z S c e l = none_at z (ap (in_range k) e ∙ below_range S c l)
 
-  pub above_all : (z : ℤ) (S c : ℕ) → z ≡ sub_ℕ S c → c + n.numbers ≤ S + n.negatives → Overflow ≡ checked k z
+  pub above_all : (z : ℤ) (S c : ℕ) → z ≡ sub_ℕ S c → c + n.numbers ≤ S + n.negatives → Err Overflow ≡ checked k z
   above_all z S c e l = none_at z (ap (in_range k) e ∙ above_range S c l)
 
   -- ---- of two words
@@ -278,16 +279,16 @@ module _ (k : IntKind) (n : NarrowKind) (i : IsOf k n) (p q X Y a b : ℕ) (lp :
   unalike t = product_is ∙ ap (λ (s : Bool). signed (not s) (a * b)) t ∙ from_zero (a * b)
 
 -- ---- UInt
-pub wide_value : (w : ℕ) → w < 2 ^ 64 → Value (UInt w) ≡ checked U64 (pos w)
+pub wide_value : (w : ℕ) → w < 2 ^ 64 → Ok (UInt w) ≡ checked U64 (pos w)
 unfolding checked
-wide_value w l = let g : w ≤ 2 ^ 64 - 1 = omega arith in sym (ap (λ (t : Bool). pick t (Value (UInt w)) Overflow) (le-leb w (2 ^ 64 - 1) g))
+wide_value w l = let g : w ≤ 2 ^ 64 - 1 = omega arith in sym (ap (λ (t : Bool). pick t (Ok (UInt w)) (Err Overflow)) (le-leb w (2 ^ 64 - 1) g))
 
-pub wide_less : (p q : ℕ) → p < q → Overflow ≡ checked U64 (pos p -ℤ pos q)
+pub wide_less : (p q : ℕ) → p < q → Err Overflow ≡ checked U64 (pos p -ℤ pos q)
 unfolding checked
 wide_less p q l =
     let e : pos p -ℤ pos q ≡ neg_ℤ (pos (q - p)) = sum_other' false true p q refl (omega arith) in
     let r : in_range U64 (neg_ℤ (pos (q - p))) ≡ false = sym (in_range_neg U64 (q - p)) ∙ lt-leb (q - p) 0 (omega arith) in
-    sym (ap (λ (z : ℤ). pick (in_range U64 z) (Value (as_kind U64 z)) Overflow) e ∙ ap (λ (t : Bool). pick t (Value (as_kind U64 (neg_ℤ (pos (q - p))))) Overflow) r)
+    sym (ap (λ (z : ℤ). pick (in_range U64 z) (Ok (as_kind U64 z)) (Err Overflow)) e ∙ ap (λ (t : Bool). pick t (Ok (as_kind U64 (neg_ℤ (pos (q - p))))) (Err Overflow)) r)
 
 pub wide_difference : (p q : ℕ) → q ≤ p → pos (p - q) ≡ pos p -ℤ pos q
 wide_difference p q l = sym (sum_other false true p q refl l)

@@ -1,10 +1,11 @@
 -- Numbers by their words: integers of at most 32 bits, UInts, and floats.
-use Rattle.std.specs.Prelude.{◌≡◌, Bool, cond, List, [], ◌∷◌, ◌⊎◌, ℕ, suc, ◌+◌, ◌-◌, ◌≤◌, eqb, ltb, Float, ℤ, pos, neg_ℤ}
+use Rattle.std.specs.Prelude.{◌≡◌, Bool, cond, List, [], ◌∷◌, ◌⊎◌, ℕ, suc, ◌+◌, ◌-◌, ◌≤◌, eqb, ltb, Float, ℤ, pos, neg_ℤ, Result, Ok, Err}
 use Rattle.std.specs.Float.{Format}
 use Rattle.std.specs.Float.Ieee.{to_bits, of_bits}
 use Rattle.numbers.specs.declared.Number.TheVariants.{UInt}
-use Rattle.numbers.specs.declared.NumberAnswer.{NumberAnswer}
-use Rattle.numbers.specs.declared.NumberAnswer.TheVariants as number
+use Rattle.numbers.specs.declared.Number.{Number}
+use Rattle.numbers.specs.declared.NumberFault.{NumberFault}
+use Rattle.numbers.specs.declared.NumberFault.TheVariants as number
 use Rattle.numbers.specs.declared.IntKind.{IntKind}
 use Rattle.numbers.specs.declared.IntKind.TheVariants.{I32, U32, U8, I8, U16, I16}
 use Rattle.numbers.specs.Kinds.{int_kind_code, least_magnitude, greatest, as_kind, wrapping}
@@ -44,14 +45,14 @@ pub record IsOf (k : IntKind) (n : NarrowKind) : Type 0 where
   pub few : n.numbers ≤ 4294967296
 
 -- an answer in words, as one of the numbers of the kind
-abbrev pub answer_in : IntKind → WordAnswer → NumberAnswer
-answer_in k (Word w) = number.Value (as_kind k (wrapping k (pos w)))
-answer_in k Overflow = number.Overflow
+abbrev pub answer_in : IntKind → WordAnswer → Result Number NumberFault
+answer_in k (Word w) = Ok (as_kind k (wrapping k (pos w)))
+answer_in k Overflow = Err number.Overflow
 
 -- the same for UInt
-abbrev pub wide_answer : WordAnswer → NumberAnswer
-wide_answer (Word w) = number.Value (UInt w)
-wide_answer Overflow = number.Overflow
+abbrev pub wide_answer : WordAnswer → Result Number NumberFault
+wide_answer (Word w) = Ok (UInt w)
+wide_answer Overflow = Err number.Overflow
 
 -- the word of a float: its bits, a NaN's one word included, from which the float comes back
 pub record FloatWord (f : Format) (x : Float) (w : ℕ) : Type 0 where

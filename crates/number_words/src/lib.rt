@@ -14,7 +14,7 @@ ghost use Rattle.numbers.specs.Arithmetic.{checked};
 ghost use Rattle.numbers.specs.Compare.{integer_order};
 ghost use Rattle.number_words.specs.Words.{narrow_kind, IsOf, turn, signed, answer_in, wide_answer, FloatWord};
 
-use numbers::Order;
+use std::cmp::Ordering;
 
 // How many numbers a kind has, and how many of them are negative.
 #[derive(Clone, Copy)]
@@ -143,18 +143,18 @@ pub fn mul_words(n: NarrowKind, p: u64, q: u64) -> WordAnswer
 }
 
 // Which of two numbers is less.
-pub fn order_words(n: NarrowKind, p: u64, q: u64) -> Order
+pub fn order_words(n: NarrowKind, p: u64, q: u64) -> Ordering
     requires { ((k : IntKind) × IsOf k n) × (p < n.numbers) × (q < n.numbers) }
     ensures { (k : IntKind) → IsOf k n → result ≡ integer_order (wrapping k (pos p)) (wrapping k (pos q)) }
 {
     let x = turned(n, p);
     let y = turned(n, q);
     if x < y {
-        Order::Less
+        Ordering::Less
     } else if y < x {
-        Order::Greater
+        Ordering::Greater
     } else {
-        Order::Equal
+        Ordering::Equal
     }
 }
 
@@ -192,15 +192,15 @@ pub fn mul_u64(p: u64, q: u64) -> WordAnswer
     }
 }
 
-pub fn order_u64(p: u64, q: u64) -> Order
+pub fn order_u64(p: u64, q: u64) -> Ordering
     ensures { result ≡ integer_order (pos p) (pos q) }
 {
     if p < q {
-        Order::Less
+        Ordering::Less
     } else if q < p {
-        Order::Greater
+        Ordering::Greater
     } else {
-        Order::Equal
+        Ordering::Equal
     }
 }
 

@@ -5,16 +5,17 @@ use Prim.Native.Nat.{ℕ, zero, suc, ◌-◌, ◌^◌, ◌<◌}
 use native.Mathlib.Omega.{arith}
 use lib.IntN.{ℤ, pos, negsuc, neg_ℤ}
 use lib.Signed.{mag}
+use Rattle.std.specs.Prelude.{Ok, Err}
 use Rattle.numbers.specs.declared.IntKind.{IntKind}
 use Rattle.numbers.specs.declared.IntKind.TheVariants.{I64, U64, I32, U32, U8, I8, U16, I16}
-use Rattle.numbers.specs.declared.NumberAnswer.TheVariants.{Value, Overflow}
+use Rattle.numbers.specs.declared.NumberFault.TheVariants.{Overflow}
 use Rattle.numbers.specs.Kinds.{is_signed, bits_of, least, in_range, as_kind}
 use Rattle.numbers.specs.Answers.{pick}
 use Rattle.numbers.specs.Arithmetic.{checked, negate_of, NegateInRange}
 use Rattle.numbers.proofs.Signs.{no}
 use Rattle.numbers.proofs.Ranges.{in_signed, signed_in}
 
-at_least : (k : IntKind) → is_signed k ≡ true → negate_of (as_kind k (least k)) ≡ Overflow
+at_least : (k : IntKind) → is_signed k ≡ true → negate_of (as_kind k (least k)) ≡ Err Overflow
 unfolding negate_of checked
 at_least I64 s = refl
 at_least I32 s = refl
@@ -49,9 +50,9 @@ negative k (negsuc n) s l d =
 pub neg_in : (k : IntKind) (z : ℤ) → is_signed k ≡ true → in_range k z ≡ true → (z ≡ least k → ⊥) → in_range k (neg_ℤ z) ≡ true
 neg_in k z s h d = signed_in k (neg_ℤ z) s (negative k z s (in_signed k z s h) d)
 
-not_least : (k : IntKind) (z : ℤ) → is_signed k ≡ true → in_range k z ≡ true → (z ≡ least k → ⊥) → negate_of (as_kind k z) ≡ Value (as_kind k (neg_ℤ z))
+not_least : (k : IntKind) (z : ℤ) → is_signed k ≡ true → in_range k z ≡ true → (z ≡ least k → ⊥) → negate_of (as_kind k z) ≡ Ok (as_kind k (neg_ℤ z))
 unfolding checked
-not_least k z s h d = exactly k z s ∙ ap (λ (b : Bool). pick b (Value (as_kind k (neg_ℤ z))) Overflow) (neg_in k z s h d)
+not_least k z s h d = exactly k z s ∙ ap (λ (b : Bool). pick b (Ok (as_kind k (neg_ℤ z))) (Err Overflow)) (neg_in k z s h d)
 
 pub negate_in_range : NegateInRange
 negate_in_range k s = (at_least k s, λ z h d. not_least k z s h d)

@@ -9,9 +9,10 @@ use lib.Pow.{pow_pos}
 use lib.IntN.{ℤ, pos, negsuc, neg_ℤ}
 use lib.Signed.{mag}
 use borrow.Author.Tests.{leb-true, lt-leb, le-leb}
+use Rattle.std.specs.Prelude.{Ok, Err}
 use Rattle.numbers.specs.declared.IntKind.{IntKind}
 use Rattle.numbers.specs.declared.IntKind.TheVariants.{I64, U64, I32, U32, U8, I8, U16, I16}
-use Rattle.numbers.specs.declared.NumberAnswer.TheVariants.{Value, Overflow}
+use Rattle.numbers.specs.declared.NumberFault.TheVariants.{Overflow}
 use Rattle.numbers.specs.Kinds.{least_magnitude, greatest, is_signed, bits_of, in_range, as_kind}
 use Rattle.numbers.specs.Answers.{pick}
 use Rattle.numbers.specs.Arithmetic.{checked}
@@ -58,6 +59,6 @@ pub outside : (k : IntKind) (s : Bool) (n : ℕ) → 2 ^ 64 ≤ n → in_range k
 outside k false n h = lt-leb _ _ (lt_of_lt_of_le (ends k).1 h)
 outside k true n h = sym (in_range_neg k n) ∙ lt-leb _ _ (lt_of_lt_of_le (ends k).0 h)
 
-pub beyond : (k : IntKind) (s : Bool) (n : ℕ) → 2 ^ 64 ≤ n → checked k (signed s n) ≡ Overflow
+pub beyond : (k : IntKind) (s : Bool) (n : ℕ) → 2 ^ 64 ≤ n → checked k (signed s n) ≡ Err Overflow
 unfolding checked
-beyond k s n h = ap (λ (b : Bool). pick b (Value (as_kind k (signed s n))) Overflow) (outside k s n h)
+beyond k s n h = ap (λ (b : Bool). pick b (Ok (as_kind k (signed s n))) (Err Overflow)) (outside k s n h)

@@ -9,8 +9,9 @@ use lib.IntN.{ℤ, pos, neg_ℤ, nat_abs, ◌+ℤ◌, ◌*ℤ◌, neg_ℤ-neg_�
 use lib.Signed.{quot_z}
 use lib.Ieee.{unlike}
 use borrow.Author.Tests.{eq-eqb, ne_eqb}
+use Rattle.std.specs.Prelude.{Err}
 use Rattle.numbers.specs.declared.IntKind.{IntKind}
-use Rattle.numbers.specs.declared.NumberAnswer.TheVariants.{ZeroDivisor}
+use Rattle.numbers.specs.declared.NumberFault.TheVariants.{ZeroDivisor}
 use Rattle.numbers.specs.Arithmetic.{checked, checked_div}
 use Rattle.numbers.proofs.Signs.{signed, no}
 
@@ -75,7 +76,7 @@ quotient true false (suc m) (suc n) z = refl
 quotient true true zero (suc n) z = sym (neg_zero (0 / suc n) (zero-div (suc n)))
 quotient true true (suc m) (suc n) z = refl
 
-pub quot_zero : (k : IntKind) (a : ℤ) (t : Bool) (n : ℕ) → n ≡ 0 → checked_div k a (signed t n) ≡ ZeroDivisor
+pub quot_zero : (k : IntKind) (a : ℤ) (t : Bool) (n : ℕ) → n ≡ 0 → checked_div k a (signed t n) ≡ Err ZeroDivisor
 unfolding checked_div
 quot_zero k a t n e = simp (eq-eqb (nat_abs (signed t n)) 0 (nat_abs_signed t n ∙ e))
 

@@ -1,12 +1,12 @@
 -- Cast: ten targets from ten kinds. Quoted is document 01, and document 02 where it says so.
-use Rattle.std.specs.Prelude.{◌≡◌, true, List, [], ◌∷◌, ℤ, eqb}
+use Rattle.std.specs.Prelude.{◌≡◌, true, List, [], ◌∷◌, ℤ, eqb, Result, Ok, Err}
 use Rattle.std.specs.Float.Ieee as Ieee
 use Rattle.std.specs.Float.{binary64}
 use Rattle.float_bits.specs.Nearest.{nearest_binary32}
 use Rattle.numbers.specs.declared.Number.{Number}
 use Rattle.numbers.specs.declared.Number.TheVariants.{Int, Float, SFloat}
-use Rattle.numbers.specs.declared.NumberAnswer.{NumberAnswer}
-use Rattle.numbers.specs.declared.NumberAnswer.TheVariants.{Value, InvalidCast}
+use Rattle.numbers.specs.declared.NumberFault.{NumberFault}
+use Rattle.numbers.specs.declared.NumberFault.TheVariants.{InvalidCast}
 use Rattle.numbers.specs.declared.IntKind.{IntKind}
 use Rattle.numbers.specs.declared.IntKind.TheVariants.{I64, U64, I32, U32, U8, I8, U16, I16}
 use Rattle.numbers.specs.declared.CastTarget.{CastTarget}
@@ -45,18 +45,18 @@ as_float (single x) = x
 
 -- "Target 0 then keeps the low 64 bits as a signed number; every other integer target gives 42 outside its range", and of a UInt "target 0 keeps the
 -- low 64 bits as a signed number; others are 42 out of range" (document 02, E1)
-unfoldable pub cast_integer : IntKind → ℤ → NumberAnswer
-cast_integer k z = pick (eqb (int_kind_code k) 1) (Value (Int (wrapping I64 z))) (pick (in_range k z) (Value (as_kind k z)) InvalidCast)
+unfoldable pub cast_integer : IntKind → ℤ → Result Number NumberFault
+cast_integer k z = pick (eqb (int_kind_code k) 1) (Ok (Int (wrapping I64 z))) (pick (in_range k z) (Ok (as_kind k z)) (Err InvalidCast))
 
 -- z is the number made whole, x the number as an f64. "To SFloat: first to f64, then to f32, two roundings"
-abbrev pub cast_to : CastTarget → ℤ → Ieee.Float → NumberAnswer
+abbrev pub cast_to : CastTarget → ℤ → Ieee.Float → Result Number NumberFault
 cast_to (ToInteger k) z x = cast_integer k z
-cast_to ToFloat z x = Value (Float x)
-cast_to ToSFloat z x = Value (SFloat (nearest_binary32 x))
+cast_to ToFloat z x = Ok (Float x)
+cast_to ToSFloat z x = Ok (SFloat (nearest_binary32 x))
 
 -- "From any of the ten kinds except UInt", and "From now on UInt casts to all ten targets" (document 02, E1): from any of the ten. Of an integer the
 -- value counts, and not the kind that it comes with.
-unfoldable pub cast_of : CastTarget → Number → NumberAnswer
+unfoldable pub cast_of : CastTarget → Number → Result Number NumberFault
 cast_of t a = cast_to t (truncated (scalar_of a)) (as_float (scalar_of a))
 
 -- so for every integer of the eight kinds there is one law

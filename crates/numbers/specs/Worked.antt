@@ -1,17 +1,16 @@
 -- The worked values of documents 01 and 02, as one table: what is asked, and the answer that the documents give.
-use Rattle.std.specs.Prelude.{ℕ, ◌+◌, ◌^◌, ◌-◌, ◌*◌, ◌≡◌, refl, true, false, List, [], ◌∷◌, map, pos, negsuc}
+use Rattle.std.specs.Prelude.{ℕ, ◌+◌, ◌^◌, ◌-◌, ◌*◌, ◌≡◌, refl, true, false, List, [], ◌∷◌, map, pos, negsuc, Result, Ok, Err}
 use Rattle.std.specs.Float.{nan, fin}
 use Rattle.std.specs.Float.Ieee.{round, of_int, to_signed}
 use Rattle.float_bits.specs.Nearest.{nearest_binary32}
 use Rattle.numbers.specs.declared.Number.{Number}
 use Rattle.numbers.specs.declared.Number.TheVariants.{Int, UInt, SByte, Float, SFloat, Byte}
-use Rattle.numbers.specs.declared.NumberAnswer.{NumberAnswer}
-use Rattle.numbers.specs.declared.NumberAnswer.TheVariants.{Value, Overflow, ZeroDivisor, WrongKind, InvalidCast}
+use Rattle.numbers.specs.declared.NumberFault.{NumberFault}
 use Rattle.numbers.specs.declared.IntKind.TheVariants.{I64, U64, U32, U8}
 use Rattle.numbers.specs.declared.CastTarget.{CastTarget}
 use Rattle.numbers.specs.declared.CastTarget.TheVariants.{ToInteger, ToFloat, ToSFloat}
 use Rattle.numbers.specs.Kinds.{wrapping}
-use Rattle.numbers.specs.Answers.{answer_number}
+use Rattle.numbers.specs.Answers.{number_of_fault}
 use Rattle.numbers.specs.Arithmetic.{add_of, div_of, negate_of, checked, checked_div}
 use Rattle.numbers.specs.Casts.{cast_of, cast_integer}
 
@@ -21,7 +20,7 @@ pub data Operation : Type 0 where
   negate : Number → Operation
   cast : Number → CastTarget → Operation
 
-abbrev pub answer_of : Operation → NumberAnswer
+abbrev pub answer_of : Operation → Result Number NumberFault
 answer_of (add a b) = add_of a b
 answer_of (div a b) = div_of a b
 answer_of (negate a) = negate_of a
@@ -32,12 +31,9 @@ pub data Outcome : Type 0 where
   value : Number → Outcome
   fault : ℕ → Outcome
 
-abbrev pub outcome_of : NumberAnswer → Outcome
-outcome_of (Value n) = value n
-outcome_of Overflow = fault (answer_number Overflow)
-outcome_of ZeroDivisor = fault (answer_number ZeroDivisor)
-outcome_of WrongKind = fault (answer_number WrongKind)
-outcome_of InvalidCast = fault (answer_number InvalidCast)
+abbrev pub outcome_of : Result Number NumberFault → Outcome
+outcome_of (Ok n) = value n
+outcome_of (Err f) = fault (number_of_fault f)
 
 abbrev pub Row : Type 0
 Row = Operation × Outcome

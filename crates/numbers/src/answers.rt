@@ -1,27 +1,47 @@
 // The fault numbers of the answers; 0 where there is a value.
 ghost use Rattle.std.specs.Prelude.{◌≡◌};
-ghost use Rattle.numbers.specs.Answers.{answer_number, comparison_fault};
+ghost use Rattle.numbers.specs.Answers.{number_of_fault, number_of_comparison_fault, answer_number, comparison_fault};
 
-use super::{ComparisonAnswer, NumberAnswer};
+use super::{ComparisonFault, Number, NumberFault};
 
-pub fn fault_number(answer: NumberAnswer) -> u8
-    ensures { result ≡ answer_number answer }
-{
-    match answer {
-        NumberAnswer::Value(_) => 0,
-        NumberAnswer::Overflow => 37,
-        NumberAnswer::ZeroDivisor => 38,
-        NumberAnswer::WrongKind => 39,
-        NumberAnswer::InvalidCast => 42,
+impl From<NumberFault> for u8 {
+    ghost from_gives = { λ fault n. n ≡ number_of_fault fault };
+
+    fn from(fault: NumberFault) -> u8 {
+        match fault {
+            NumberFault::Overflow => 37,
+            NumberFault::ZeroDivisor => 38,
+            NumberFault::WrongKind => 39,
+            NumberFault::InvalidCast => 42,
+        }
     }
 }
 
-pub fn comparison_fault(answer: ComparisonAnswer) -> u8
+impl From<ComparisonFault> for u8 {
+    ghost from_gives = { λ fault n. n ≡ number_of_comparison_fault fault };
+
+    fn from(fault: ComparisonFault) -> u8 {
+        match fault {
+            ComparisonFault::Unordered => 40,
+            ComparisonFault::WrongKind => 39,
+        }
+    }
+}
+
+pub fn fault_number(answer: Result<Number, NumberFault>) -> u8
+    ensures { result ≡ answer_number answer }
+{
+    match answer {
+        Ok(_) => 0,
+        Err(fault) => u8::from(fault),
+    }
+}
+
+pub fn comparison_fault(answer: Result<bool, ComparisonFault>) -> u8
     ensures { result ≡ comparison_fault answer }
 {
     match answer {
-        ComparisonAnswer::Holds(_) => 0,
-        ComparisonAnswer::Unordered => 40,
-        ComparisonAnswer::WrongKind => 39,
+        Ok(_) => 0,
+        Err(fault) => u8::from(fault),
     }
 }

@@ -1,4 +1,4 @@
-// The numbers of the machine: ten kinds, what an operation on them answers, and the definitions of the operations (specs/). `number_operands`
+// The numbers of the machine: ten kinds, the faults of an operation on them, and the definitions of the operations (specs/). `number_operands`
 // takes numbers apart; `number_arithmetic`, `number_comparison` and `number_casts` have the operations.
 #![tactic(auto)]
 
@@ -20,30 +20,18 @@ pub enum Number {
     BSByte(i16),
 }
 
-// What arithmetic, negation and a cast answer: a number, or a fault.
-#[derive(Clone, Copy)]
-pub enum NumberAnswer {
-    Value(Number),
+// Why arithmetic, negation or a cast has no number to answer.
+#[derive(Clone, Copy, Debug, PartialEq, Eq)]
+pub enum NumberFault {
     Overflow,
     ZeroDivisor,
     WrongKind,
     InvalidCast,
 }
 
-// How two numbers compare. A NaN has no order.
-#[derive(Clone, Copy)]
-pub enum Order {
-    Less,
-    Equal,
-    Greater,
-    Unordered,
-    OtherKind,
-}
-
-// What an ordered comparison answers.
-#[derive(Clone, Copy)]
-pub enum ComparisonAnswer {
-    Holds(bool),
+// Why an ordered comparison has no answer: a NaN has no order, and numbers of two kinds have none.
+#[derive(Clone, Copy, Debug, PartialEq, Eq)]
+pub enum ComparisonFault {
     Unordered,
     WrongKind,
 }

@@ -9,8 +9,7 @@ use Rattle.chunk.specs.Fault.{static_number, number_of, Inspects}
 use Rattle.chunk.specs.declared.Instr.{Instr}
 use Rattle.chunk.specs.declared.StaticFault.{StaticFault}
 use Rattle.chunk.specs.declared.StaticFault.TheVariants as fault
-use Rattle.chunk.specs.declared.Inspected.{Inspected}
-use Rattle.chunk.specs.declared.Inspected.TheVariants.{Sound, Fault}
+use Rattle.std.proofs.Common.{Result, Ok, Err}
 use Rattle.chunk.proofs.Judging.{whole_found, behind}
 use Rattle.stack_check.specs.Node.{node_of, node_at, NodeIs, Drawn, Here}
 use Rattle.stack_check.specs.declared.Node.{Node}
@@ -33,15 +32,15 @@ some_number fault.Instruction e = omega arith
 some_number fault.Loop e = omega arith
 some_number fault.Constant e = omega arith
 
-module _ {c : Chunk} {p : ℕ} {r : Inspected} (I : Inspects c p r) where
-  pub is_faulty : {f : StaticFault} → r ≡ Fault f → definition.fault c p ≡ 0 → ⊥
+module _ {c : Chunk} {p : ℕ} {r : Result Instr StaticFault} (I : Inspects c p r) where
+  pub is_faulty : {f : StaticFault} → r ≡ Err f → definition.fault c p ≡ 0 → ⊥
   is_faulty {f} e z = some_number f (sym (ap number_of e) ∙ I.number ∙ z)
 
-  pub fault_number : {f : StaticFault} → r ≡ Fault f → static_number f ≡ definition.fault c p
+  pub fault_number : {f : StaticFault} → r ≡ Err f → static_number f ≡ definition.fault c p
   fault_number e = sym (ap number_of e) ∙ I.number
 
-  pub is_clean : {i : Instr} → r ≡ Sound i → definition.fault c p ≡ 0
+  pub is_clean : {i : Instr} → r ≡ Ok i → definition.fault c p ≡ 0
   is_clean e = sym I.number ∙ ap number_of e
 
-  pub is_here : {i : Instr} → r ≡ Sound i → Here c p i
+  pub is_here : {i : Instr} → r ≡ Ok i → Here c p i
   is_here {i} e = let x = I.sound i e in record { decoded = x.0; small = x.1 }

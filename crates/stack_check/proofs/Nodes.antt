@@ -174,9 +174,6 @@ kinds_back (k ∷ ks) = ap (λ (l : List ℕ). k ∷ l) (kinds_back ks)
 pub before_start : {n a : ℕ} → n < a → 0 ≡ n - a
 before_start h = omega arith
 
-pub fits_in : (n a : ℕ) → n < 9223372036854775808 + 65536 → a < 65536 → n + a ≤ 18446744073709551615
-fits_in n a h l = omega arith
-
 pub effect_is : (r t : FlowEffect) → r.exact ≡ t.exact → r.drops ≡ t.drops → r.opens ≡ t.opens → r.ends ≡ t.ends → r ≡ t
 effect_is r t a b c d = all a b c d
   where

@@ -1,5 +1,5 @@
 -- Inner step: an instruction as the search works with it, made of the definition's instruction and its row of the definition's table.
-use Rattle.std.specs.Prelude.{◌≡◌, List, map, ℕ, ◌+◌, ◌-◌, ◌<◌, ℤ, pos}
+use Rattle.std.specs.Prelude.{◌≡◌, List, map, ℕ, ◌+◌, ◌-◌, ◌<◌, ℤ, pos, Ok}
 use Rattle.std.proofs.Math.Option.{Option, none, some}
 use Rattle.definition.specs.Image.{Constant, Chunk}
 use Rattle.definition.specs.Table as table
@@ -9,7 +9,6 @@ use Rattle.chunk.specs.Decode.{instr_of, decoded_at, Small}
 use Rattle.chunk.specs.declared.Flow.{Flow}
 use Rattle.chunk.specs.declared.Flow.TheVariants.{Straight, Opens, Closes, Forward, Backward, Forks, Ends, MayEnd}
 use Rattle.chunk.specs.declared.Instr.{Instr}
-use Rattle.chunk.specs.declared.Decoded.TheVariants.{Whole}
 use Rattle.stack_check.specs.declared.FlowEffect.{FlowEffect}
 use Rattle.stack_check.specs.declared.Node.{Node}
 
@@ -92,5 +91,5 @@ chunk_of code kinds = record { arity = 0; name = 0; constants = map of_kind kind
 
 -- at p of the chunk stands the whole instruction i
 pub record Here (c : Chunk) (p : ℕ) (i : Instr) : Type 0 where
-  pub decoded : decoded_at c.code p ≡ Whole i
+  pub decoded : decoded_at c.code p ≡ Ok i
   pub small : Small i

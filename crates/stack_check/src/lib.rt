@@ -10,7 +10,7 @@ ghost use Rattle.stack_check.specs.Progress.{Progress, Coming, Visited, Spread, 
 ghost use Rattle.stack_check.specs.Answer.{reason_number, ChunkIs, ChunkDecided, RowLent, RowDecided, CheckRoomy, Lent, Decided};
 ghost use Rattle.clearing.specs.Zero.{AllZero};
 
-use chunk::{BackJump, CodeCursor, Flow, Inspected, Instr, StaticFault};
+use chunk::{CodeCursor, Flow, Instr, StaticFault};
 use clearing::clear_usize;
 
 // Why a chunk does not pass: what `chunk` can see of one instruction, or that no heights exist.
@@ -100,8 +100,8 @@ fn back(next: CodeCursor, a: usize) -> usize
     ensures { result ≡ next.at - a }
 {
     match next.jump_back(a) {
-        BackJump::To(c) => c.at,
-        BackJump::BeforeStart => 0,
+        Some(c) => c.at,
+        None => 0,
     }
 }
 
@@ -313,7 +313,7 @@ fn step(
     let at = todo[head];
     let low = s.low;
     match chunk::inspect(code, kinds, at) {
-        Inspected::Fault(_) => {
+        Err(_) => {
             if at < low {
                 return Search {
                     head: head + 1,
@@ -330,7 +330,7 @@ fn step(
                 };
             }
         }
-        Inspected::Sound(i) => {
+        Ok(i) => {
             let r = handle(code, kinds, heights, depths, todo, s, at, i);
             Search {
                 head: head + 1,
@@ -358,8 +358,8 @@ fn fault_reason(code: &[u8], kinds: &[u8], at: usize) -> Reason
     ensures { reason_number result ≡ fault (chunk_of code.now kinds.now) at }
 {
     match chunk::inspect(code, kinds, at) {
-        Inspected::Fault(f) => reason_of(f),
-        Inspected::Sound(_) => Reason::NoHeights,
+        Err(f) => reason_of(f),
+        Ok(_) => Reason::NoHeights,
     }
 }
 

@@ -15,7 +15,7 @@ returns-in_default c =
     let number2 = c.number-operand in
     let number3 = c.number-acc in
     let args = c.args in
-    inr (faulted add_of args.n loop.i _ _ _ _ loop.acc number3.ensures number2.ensures loop_test.true loop.invariant.1 c.add.ensures c.in_default.not-Value)
+    inr (faulted add_of args.n loop.i _ _ _ _ loop.acc number3.ensures number2.ensures loop_test.true loop.invariant.1 c.add.ensures c.in_default.not-Ok)
 
 pub overflow_add-i : goal.overflow_add-i
 overflow_add-i c =
@@ -33,7 +33,7 @@ loop-i-preserved c =
     let add2 = c.add in
     let loop_test = c.loop-i-test in
     let loop = c.loop-i in
-    (omega (arith, loop_test.true), next_turn _ loop.i _ loop.acc c.in-Value.y loop.invariant.1 add2.ensures c.in-Value.is)
+    (omega (arith, loop_test.true), next_turn _ loop.i _ loop.acc c.in-Ok.y loop.invariant.1 add2.ensures c.in-Ok.is)
 
 pub returns : goal.returns
 returns c =

@@ -1,14 +1,13 @@
 -- `number_bench::bench_sub` meets its contract: after i turns the definition has the number at hand. Assumes nothing.
 
-use Rattle.std.proofs.Common.{◌≡◌, ◌-◌, ◌≤◌}
+use Rattle.std.proofs.Common.{◌≡◌, ◌-◌, ◌≤◌, Ok}
 use Rattle.numbers.specs.declared.Number.{Number}
-use Rattle.numbers.specs.declared.NumberAnswer.TheVariants.{Value}
 use Rattle.numbers.specs.Arithmetic.{sub_of}
 use Rattle.number_bench.specs.Turns.{turns}
 use Rattle.number_bench.proofs.bench_sub.Given as goal
 
 abbrev pub invariant-loop-i : goal.invariant-loop-i
-invariant-loop-i l = (l.i ≤ l.n) × (turns (λ (x : Number). sub_of x l.operand) l.i l.initial.acc ≡ Value l.acc)
+invariant-loop-i l = (l.i ≤ l.n) × (turns (λ (x : Number). sub_of x l.operand) l.i l.initial.acc ≡ Ok l.acc)
 
 abbrev pub decreases-loop-i : goal.decreases-loop-i
 decreases-loop-i l = l.n - l.i

@@ -1,9 +1,8 @@
 -- `number_casts::cast_from_float` meets its contract: each target is one of the definition's. Assumes nothing.
 
-use Rattle.std.proofs.Common.{sym, ap, ◌∙◌}
+use Rattle.std.proofs.Common.{sym, ap, ◌∙◌, Ok}
 use lib.Ieee.{Float, to_signed}
 use Rattle.numbers.specs.declared.CastTarget.{CastTarget}
-use Rattle.numbers.specs.declared.NumberAnswer.TheVariants.{Value}
 use Rattle.numbers.specs.declared.Number.TheVariants as N
 use Rattle.numbers.specs.Casts.{cast_to}
 use Rattle.number_casts.proofs.cast_from_float.Goals as goal
@@ -21,5 +20,5 @@ returns-in-ToFloat c =
 pub returns-in-ToSFloat : goal.returns-in-ToSFloat
 returns-in-ToSFloat c =
     let args = c.args in
-    ap (λ (y : Float). Value (N.SFloat y)) c.nearest_f64_to_f32.ensures ∙ sym (ap (λ (t : CastTarget). cast_to t (to_signed 127 args.x) args.x)
+    ap (λ (y : Float). Ok (N.SFloat y)) c.nearest_f64_to_f32.ensures ∙ sym (ap (λ (t : CastTarget). cast_to t (to_signed 127 args.x) args.x)
     c.in-ToSFloat.is)

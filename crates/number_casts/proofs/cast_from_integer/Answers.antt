@@ -1,10 +1,9 @@
 -- `number_casts::cast_from_integer` meets its contract: each target is one of the definition's. Assumes nothing.
 
-use Rattle.std.proofs.Common.{sym, ap, ◌∙◌}
+use Rattle.std.proofs.Common.{sym, ap, ◌∙◌, Ok}
 use lib.Ieee.{Float, binary64, of_int}
 use Rattle.float_bits.specs.Nearest.{nearest_binary32}
 use Rattle.numbers.specs.declared.CastTarget.{CastTarget}
-use Rattle.numbers.specs.declared.NumberAnswer.TheVariants.{Value}
 use Rattle.numbers.specs.declared.Number.TheVariants as N
 use Rattle.number_operands.specs.Operands.{value_of}
 use Rattle.numbers.specs.Casts.{cast_to}
@@ -18,11 +17,11 @@ returns-in-ToInteger c =
 pub returns-in-ToFloat : goal.returns-in-ToFloat
 returns-in-ToFloat c =
     let args = c.args in
-    ap (λ (y : Float). Value (N.Float y)) c.nearest_f64.ensures ∙ sym (ap (λ (t : CastTarget). cast_to t (value_of args.x) (of_int binary64
+    ap (λ (y : Float). Ok (N.Float y)) c.nearest_f64.ensures ∙ sym (ap (λ (t : CastTarget). cast_to t (value_of args.x) (of_int binary64
     (value_of args.x))) c.in-ToFloat.is)
 
 pub returns-in-ToSFloat : goal.returns-in-ToSFloat
 returns-in-ToSFloat c =
     let args = c.args in
-    ap (λ (y : Float). Value (N.SFloat y)) (c.nearest_f64_to_f32.ensures ∙ ap nearest_binary32 c.nearest_f64-in-ToSFloat.ensures) ∙ sym (ap (λ (t
+    ap (λ (y : Float). Ok (N.SFloat y)) (c.nearest_f64_to_f32.ensures ∙ ap nearest_binary32 c.nearest_f64-in-ToSFloat.ensures) ∙ sym (ap (λ (t
     : CastTarget). cast_to t (value_of args.x) (of_int binary64 (value_of args.x))) c.in-ToSFloat.is)

@@ -14,7 +14,7 @@ returns-then-at-low c =
     let args = c.args in
     let pre = c.requires in (
       step_lower pre.0 pre.1 _ refl (is_faulty (inspect.ensures (chunk_of args.code.now args.kinds.now) refl (kinds_back args.kinds.now))
-          c.in-Fault.is) c.if-at-low.true,
+          c.in-Err.is) c.if-at-low.true,
       refl,
     )
 
@@ -24,7 +24,7 @@ returns-else-at-low c =
     let args = c.args in
     let pre = c.requires in (
       step_higher pre.0 pre.1 _ refl (is_faulty (inspect.ensures (chunk_of args.code.now args.kinds.now) refl (kinds_back args.kinds.now))
-          c.in-Fault.is) c.if-at-low.false,
+          c.in-Err.is) c.if-at-low.false,
       refl,
     )
 
@@ -36,12 +36,12 @@ handle-r-requires c =
       pre.0,
       pre.0.listed _ pre.1,
       is_clean (inspect.ensures (chunk_of args.code.now args.kinds.now) refl (kinds_back args.kinds.now))
-          c.in-Sound.is,
-      is_here (inspect.ensures (chunk_of args.code.now args.kinds.now) refl (kinds_back args.kinds.now)) c.in-Sound.is,
+          c.in-Ok.is,
+      is_here (inspect.ensures (chunk_of args.code.now args.kinds.now) refl (kinds_back args.kinds.now)) c.in-Ok.is,
     )
 
-pub overflow_add-result-in-Sound : goal.overflow_add-result-in-Sound
-overflow_add-result-in-Sound c =
+pub overflow_add-result-in-Ok : goal.overflow_add-result-in-Ok
+overflow_add-result-in-Ok c =
     let good = c.well_formed
     in
     let pre = c.requires
@@ -56,7 +56,7 @@ returns c =
     in
     let pre = c.requires
     in (
-      step_handled pre.1 (is_clean (inspect.ensures (chunk_of args.code.now args.kinds.now) refl (kinds_back args.kinds.now)) c.in-Sound.is)
+      step_handled pre.1 (is_clean (inspect.ensures (chunk_of args.code.now args.kinds.now) refl (kinds_back args.kinds.now)) c.in-Ok.is)
           handle.ensures,
       refl,
     )

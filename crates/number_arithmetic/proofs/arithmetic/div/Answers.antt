@@ -2,13 +2,15 @@
 
 use mathlib.Core.Path.{sym, ap, ◌∙◌}
 use lib.Ieee as Ieee
-use Rattle.numbers.specs.declared.NumberAnswer.{NumberAnswer}
+use Rattle.std.proofs.Common.{Result}
+use Rattle.numbers.specs.declared.Number.{Number}
+use Rattle.numbers.specs.declared.NumberFault.{NumberFault}
 use Rattle.numbers.specs.Scalars.{ScalarPair}
 use Rattle.number_operands.specs.Operands.{operand_pair}
 use Rattle.numbers.specs.Arithmetic.{arithmetic, checked_div}
 use Rattle.number_arithmetic.proofs.arithmetic.div.Goals as goal
 
-abbrev rule : ScalarPair → NumberAnswer
+abbrev rule : ScalarPair → Result Number NumberFault
 rule = arithmetic checked_div Ieee.div
 
 pub returns-in-Integers : goal.returns-in-Integers

@@ -1,8 +1,8 @@
 -- `number_operands::integers::checked` meets its contract: a number in range wraps to itself. Assumes nothing.
 
-use Rattle.std.proofs.Common.{◌≡◌, ℕ, Bool, true, false, ℤ, pos, sym, ap, ◌∙◌}
+use Rattle.std.proofs.Common.{◌≡◌, ℕ, Bool, true, false, ℤ, pos, sym, ap, ◌∙◌, Ok, Err}
 use Rattle.numbers.specs.declared.Number.{Number}
-use Rattle.numbers.specs.declared.NumberAnswer.TheVariants.{Value, Overflow}
+use Rattle.numbers.specs.declared.NumberFault.TheVariants.{Overflow}
 use Rattle.numbers.specs.declared.IntKind.{IntKind}
 use Rattle.numbers.specs.Kinds.{in_range, as_kind, low_bits, wrapping}
 use Rattle.number_operands.specs.Operands.{value_of}
@@ -11,13 +11,13 @@ use Rattle.numbers.specs.Arithmetic.{checked}
 use Rattle.numbers.proofs.Wrap.{wrapping_word, wrapping_in}
 use Rattle.number_operands.proofs.integers.checked.Goals as goal
 
-exact : (k : IntKind) (z : ℤ) {w : ℕ} {r : Number} → w ≡ low_bits 64 z → in_range k z ≡ true → r ≡ as_kind k (wrapping k (pos w)) → Value r ≡ checked k z
+exact : (k : IntKind) (z : ℤ) {w : ℕ} {r : Number} → w ≡ low_bits 64 z → in_range k z ≡ true → r ≡ as_kind k (wrapping k (pos w)) → Ok r ≡ checked k z
 unfolding checked
-exact k z e h q = ap Value (q ∙ ap (as_kind k) (wrapping_word k z e ∙ wrapping_in k z h)) ∙ sym (ap (λ (b : Bool). pick b (Value (as_kind k z)) Overflow) h)
+exact k z e h q = ap Ok (q ∙ ap (as_kind k) (wrapping_word k z e ∙ wrapping_in k z h)) ∙ sym (ap (λ (b : Bool). pick b (Ok (as_kind k z)) (Err Overflow)) h)
 
-over : (k : IntKind) (z : ℤ) → in_range k z ≡ false → Overflow ≡ checked k z
+over : (k : IntKind) (z : ℤ) → in_range k z ≡ false → Err Overflow ≡ checked k z
 unfolding checked
-over k z h = sym (ap (λ (b : Bool). pick b (Value (as_kind k z)) Overflow) h)
+over k z h = sym (ap (λ (b : Bool). pick b (Ok (as_kind k z)) (Err Overflow)) h)
 
 pub returns-then-in_range : goal.returns-then-in_range
 returns-then-in_range c =

@@ -1,9 +1,0 @@
--- `numbers::comparison::less_eq` meets its contract. Assumes nothing.
-
-use mathlib.Core.Path.{ap, ◌∙◌}
-use mathlib.Core.Bool.{true, false}
-use Rattle.numbers.specs.Compare.{comparison_of}
-use Rattle.number_comparison.proofs.less_eq.Goals as goal
-
-pub returns : goal.returns
-returns c = c.comparison_of.ensures ∙ ap (comparison_of true true false) c.compare.ensures
