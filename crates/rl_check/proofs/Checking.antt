@@ -22,9 +22,9 @@ use Rattle.image.specs.declared.LoadAnswer.{LoadAnswer}
 use Rattle.image.specs.declared.LoadAnswer.TheVariants as load
 use Rattle.image.proofs.Found.{found, refused_as}
 use Rattle.stack_check.specs.Answer.{ChunkHeld, ImageHeld, Lent, Decided, checked_of}
-use Rattle.stack_check.specs.declared.Reason as fault
-use Rattle.stack_check.specs.declared.CheckAnswer as answer
-use Rattle.stack_check.specs.declared.CheckAnswer.TheVariants as stack
+use Rattle.stack_check.specs.Answer as answer
+use Rattle.stack_check.specs.declared.ImageFault.{ImageFault}
+use Rattle.std.proofs.Common.{Ok, Err}
 use Rattle.rl_check.specs.Work.{CheckWork, check_short}
 use Rattle.rl_check.specs.Check.{answer_of, Checks, Ready, Judges}
 use Rattle.rl_check.specs.declared.CheckAnswer.{CheckAnswer}
@@ -56,13 +56,13 @@ module _ {bytes kinds table : List ℕ} {chunks : ℕ} where
       (R.found, R.held, record { heights = λ c l. let s = (R.kept.chunks_kept c l).short_code in omega arith; depths = omega arith; todo = omega arith })
 
   -- what it answers
-  pub passes_judged : (r : answer.CheckAnswer) → r ≡ stack.Pass → Decided bytes kinds table chunks r → Judges bytes kinds table chunks Pass
+  pub passes_judged : (r : answer.CheckAnswer) {u : Unit {0}} → r ≡ Ok u → Decided bytes kinds table chunks r → Judges bytes kinds table chunks Pass
   passes_judged r e D im h = rw e at ((D im h (checked_of r)).0 refl)
 
   pub fault_judged :
-      (r : answer.CheckAnswer) (f : fault.Reason) (c p : ℕ) → r ≡ stack.Fault f c p → Decided bytes kinds table chunks r
-      → Judges bytes kinds table chunks (Fault f c p)
-  fault_judged r f c p e D im h = rw e at ((D im h (checked_of r)).0 refl)
+      (r : answer.CheckAnswer) (f : ImageFault) → r ≡ Err f → Decided bytes kinds table chunks r
+      → Judges bytes kinds table chunks (Fault f.reason f.chunk f.at)
+  fault_judged r f e D im h = rw e at ((D im h (checked_of r)).0 refl)
 
 -- a slice is short
 module _ (w : CheckWork) where

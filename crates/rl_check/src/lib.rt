@@ -45,8 +45,8 @@ fn check_loaded(
         &mut depths[..least::DEPTHS],
         &mut todo[..least::TODO],
     ) {
-        stack_check::CheckAnswer::Pass => CheckAnswer::Pass,
-        stack_check::CheckAnswer::Fault(why, chunk, at) => CheckAnswer::Fault(why, chunk, at),
+        Ok(()) => CheckAnswer::Pass,
+        Err(fault) => CheckAnswer::Fault(fault.reason, fault.chunk, fault.at),
     }
 }
 
