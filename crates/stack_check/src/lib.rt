@@ -10,7 +10,7 @@ ghost use Rattle.stack_check.specs.Answer.{reason_number, ChunkIs, ChunkDecided,
 ghost use Rattle.clearing.specs.Zero.{AllZero};
 
 use chunk::{CodeCursor, Flow, Instr, StaticFault};
-use clearing::clear_usize;
+use clearing::clear;
 
 // Why a chunk does not pass: what `chunk` can see of one instruction, or that no heights exist.
 #[derive(Clone, Copy)]
@@ -368,7 +368,7 @@ fn judge(
     if n == 0 {
         return Ok(());
     }
-    clear_usize(heights);
+    clear(heights);
     heights[0] = 1;
     depths[0] = 0;
     todo[0] = 0;
@@ -405,9 +405,9 @@ pub fn check_chunk(
     ensures cleared { AllZero heights.new × AllZero depths.new × AllZero todo.new }
 {
     let answer = judge(code, kinds, heights, depths, todo);
-    clear_usize(heights);
-    clear_usize(depths);
-    clear_usize(todo);
+    clear(heights);
+    clear(depths);
+    clear(todo);
     answer
 }
 
@@ -480,8 +480,8 @@ pub fn check_image(
     ensures cleared { AllZero heights.new × AllZero depths.new × AllZero todo.new }
 {
     let answer = judge_all(bytes, kinds, table, chunks, heights, depths, todo);
-    clear_usize(heights);
-    clear_usize(depths);
-    clear_usize(todo);
+    clear(heights);
+    clear(depths);
+    clear(todo);
     answer
 }

@@ -14,28 +14,28 @@ returns-then-n-eq0 c =
 
 pub bounds-heights-0 : goal.bounds-heights-0
 bounds-heights-0 c =
-    let clear_usize = c.clear_usize in
+    let clear_usize = c.clear in
     let if1 = c.if-n-eq0 in
     let pre = c.requires in
     omega (arith, positive _ if1.false, clear_usize.auto.a, pre.heights)
 
 pub bounds-depths-0 : goal.bounds-depths-0
 bounds-depths-0 c =
-    let clear_usize = c.clear_usize in
+    let clear_usize = c.clear in
     let if1 = c.if-n-eq0 in
     let pre = c.requires in
     omega (arith, positive _ if1.false, clear_usize.auto.a, pre.heights, pre.depths)
 
 pub bounds-todo-0 : goal.bounds-todo-0
 bounds-todo-0 c =
-    let clear_usize = c.clear_usize in
+    let clear_usize = c.clear in
     let if1 = c.if-n-eq0 in
     let pre = c.requires in
     omega (arith, positive _ if1.false, clear_usize.auto.a, pre.heights, pre.todo)
 
 pub search-s-requires : goal.search-s-requires
 search-s-requires c =
-    let clear_usize = c.clear_usize in
+    let clear_usize = c.clear in
     let args = c.args in
     let pre = c.requires in
     progress_begun (chunk_of args.code.now args.kinds.now) args.heights.now clear_usize.new.a args.depths.now args.todo.now
