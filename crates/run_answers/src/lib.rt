@@ -9,13 +9,13 @@ ghost use Rattle.std.specs.Prelude.{◌≡◌};
 ghost use Rattle.vm_logic.specs.Endings.{EndHeld};
 ghost use Rattle.run_answers.specs.Run.{own, any_short, OwnZero, Ended};
 
-use clearing::{clear_u16, clear_u64, clear_usize};
+use clearing::clear;
 pub use run_numbers::{
     run_chunk, run_count, run_length, run_line, run_number, run_offset, stop_number,
 };
 use value_coding::{Coded, code_value};
-use vm_acts::StopReason;
-use vm_logic::RunEnd;
+use vm_acts::{StopReason, Stopped};
+use vm_logic::RunValue;
 
 // What `run` answers: a refusal with its line; a value, with the count of instructions begun and the length of its coding; or a stop with its
 // place. specs/Run.antt, `answer_of`, gives document 01's number of each.
@@ -84,27 +84,29 @@ pub fn clear_run(
 )
     ensures { OwnZero (own texts.new classes.new stack.new locals.new starts.new globals.new cells.new memo.new) }
 {
-    clear_u64(texts);
-    clear_u64(classes);
-    clear_u64(stack);
-    clear_u64(locals);
-    clear_usize(starts);
-    clear_u64(globals);
-    clear_u64(cells);
-    clear_u16(memo);
+    clear(texts);
+    clear(classes);
+    clear(stack);
+    clear(locals);
+    clear(starts);
+    clear(globals);
+    clear(cells);
+    clear(memo);
 }
 
 // What a run that ended answers: its value coded into the result slice, if it fits there, or its stop.
-pub fn code_end(end: RunEnd, cells: &[u64], res: &mut [u8]) -> RunAnswer
+pub fn code_end(end: Result<RunValue, Stopped>, cells: &[u64], res: &mut [u8]) -> RunAnswer
     requires { EndHeld end cells.now }
     ensures { Ended end cells.now res.old res.new result }
 {
     match end {
-        RunEnd::Value {
-            value,
-            cells: taken,
-            count,
-        } => match code_value(cells, taken, value, res) {
+        Ok(
+            RunValue {
+                value,
+                cells: taken,
+                count,
+            },
+        ) => match code_value(cells, taken, value, res) {
             Coded::Bytes(length) => RunAnswer::Value { count, length },
             Coded::TooLong => RunAnswer::Stop {
                 reason: StopReason::ResultTooLong,
@@ -113,12 +115,14 @@ pub fn code_end(end: RunEnd, cells: &[u64], res: &mut [u8]) -> RunAnswer
                 offset: 0,
             },
         },
-        RunEnd::Stop {
-            reason,
-            count,
-            chunk,
-            offset,
-        } => RunAnswer::Stop {
+        Err(
+            Stopped {
+                reason,
+                count,
+                chunk,
+                offset,
+            },
+        ) => RunAnswer::Stop {
             reason,
             count,
             chunk,
