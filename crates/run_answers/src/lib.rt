@@ -11,7 +11,7 @@ ghost use Rattle.run_answers.specs.Run.{own, any_short, OwnZero, Ended};
 
 use clearing::clear;
 pub use run_numbers::{RunNumbers, stop_number};
-use value_coding::{Coded, code_value};
+use value_coding::code_value;
 use vm_acts::{StopReason, Stopped};
 use vm_logic::RunValue;
 
@@ -84,8 +84,8 @@ pub fn code_end(end: Result<RunValue, Stopped>, cells: &[u64], res: &mut [u8]) -
                 count,
             },
         ) => match code_value(cells, taken, value, res) {
-            Coded::Bytes(length) => RunAnswer::Value { count, length },
-            Coded::TooLong => RunAnswer::Stop(Stopped {
+            Some(length) => RunAnswer::Value { count, length },
+            None => RunAnswer::Stop(Stopped {
                 reason: StopReason::ResultTooLong,
                 count,
                 chunk: 0,
