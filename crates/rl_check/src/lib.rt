@@ -15,7 +15,7 @@ pub use numbers_of::{CheckNumbers, fault_number};
 use stack_check::check_image;
 
 // What `check` answers: a refusal with its line, a pass, or the fault with chunk and offset. specs/Check.antt, `answer_of`, gives document 01's
-// number of each.
+// number of each. No Result: each caller goes three ways, and would match twice.
 #[derive(Clone, Copy)]
 pub enum CheckAnswer {
     Refused(image::Reason, usize),

@@ -16,7 +16,7 @@ use vm_acts::{StopReason, Stopped};
 use vm_logic::RunValue;
 
 // What `run` answers: a refusal with its line; a value, with the count of instructions begun and the length of its coding; or a stop with its
-// place. specs/Run.antt, `answer_of`, gives document 01's number of each.
+// place. specs/Run.antt, `answer_of`, gives document 01's number of each. No Result: each caller goes three ways, and would match twice.
 #[derive(Clone, Copy)]
 pub enum RunAnswer {
     Refused(image::Reason, usize),
