@@ -13,7 +13,7 @@ use Rattle.definition.specs.Answers as definition
 use Rattle.definition.specs.Runner.{ascii, decimal, padded, hex, words, answer_line, runner_line}
 use Rattle.image.specs.Answer.{Slices}
 use Rattle.vm_acts.specs.Reasons.{reason_number}
-use Rattle.vm_acts.specs.declared.StopReason.{StopReason}
+use Rattle.vm_acts.specs.declared.Stopped.{Stopped}
 use Rattle.run_answers.specs.Run.{Own, any_short, run_short, RunAnswered}
 use Rattle.run_answers.specs.declared.RunAnswer.{RunAnswer}
 use Rattle.run_answers.specs.declared.RunAnswer.TheVariants.{Value, Stop}
@@ -30,13 +30,16 @@ module _ (a : RunAnswer) (l : List ℕ) where
       ∙ ap (λ (x : RunAnswer). line_of x l) (sym q)
 
   pub stop_line :
-      (e : StopReason) (n k c o : ℕ) → a ≡ Stop (record { reason = e; count = k; chunk = c; offset = o }) → n ≡ reason_number e → n < 2 ^ 64 → k < 2 ^ 64
-      → ascii "stop " ++ (shown.decimal n ++ (32 ∷ (shown.decimal k ++ (32 ∷ ((padded c ++ (32 ∷ padded o)) ++ (10 ∷ [])))))) ≡ line_of a l
-  stop_line e n k c o q m h g =
-      ap (λ (d : List ℕ). ascii "stop " ++ (d ++ (32 ∷ (shown.decimal k ++ (32 ∷ ((padded c ++ (32 ∷ padded o)) ++ (10 ∷ []))))))) (decimal_shown n h)
-      ∙ ap (λ (d : List ℕ). ascii "stop " ++ (decimal n ++ (32 ∷ (d ++ (32 ∷ ((padded c ++ (32 ∷ padded o)) ++ (10 ∷ []))))))) (decimal_shown k g)
-      ∙ ap (λ (x : List ℕ). ascii "stop " ++ (decimal n ++ (32 ∷ (decimal k ++ (32 ∷ x))))) (append_assoc (padded c) (32 ∷ padded o) (10 ∷ []))
-      ∙ ap (λ (x : ℕ). words (ascii "stop" ∷ decimal x ∷ decimal k ∷ padded c ∷ padded o ∷ [])) m
+      (s : Stopped) (n k : ℕ) → a ≡ Stop s → n ≡ reason_number s.reason → k ≡ s.count → n < 2 ^ 64 → k < 2 ^ 64
+      → ascii "stop " ++ (shown.decimal n ++ (32 ∷ (shown.decimal k ++ (32 ∷ ((padded s.chunk ++ (32 ∷ padded s.offset)) ++ (10 ∷ []))))))
+      ≡ line_of a l
+  stop_line s n k q m e h g =
+      let place = (padded s.chunk ++ (32 ∷ padded s.offset)) ++ (10 ∷ []) in
+      ap (λ (d : List ℕ). ascii "stop " ++ (d ++ (32 ∷ (shown.decimal k ++ (32 ∷ place))))) (decimal_shown n h)
+      ∙ ap (λ (d : List ℕ). ascii "stop " ++ (decimal n ++ (32 ∷ (d ++ (32 ∷ place))))) (decimal_shown k g)
+      ∙ ap (λ (x : ℕ). ascii "stop " ++ (decimal n ++ (32 ∷ (decimal x ++ (32 ∷ place))))) e
+      ∙ ap (λ (x : List ℕ). ascii "stop " ++ (decimal n ++ (32 ∷ (decimal s.count ++ (32 ∷ x))))) (append_assoc (padded s.chunk) (32 ∷ padded s.offset) (10 ∷ []))
+      ∙ ap (λ (x : ℕ). words (ascii "stop" ∷ decimal x ∷ decimal s.count ∷ padded s.chunk ∷ padded s.offset ∷ [])) m
       ∙ ap (λ (x : RunAnswer). line_of x l) (sym q)
 
 -- slices of the lengths that `run` asks for

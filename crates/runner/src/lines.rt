@@ -1,5 +1,5 @@
 // The line of an answer of `run`.
-ghost use Rattle.std.specs.Prelude.{Some, ◌≤◌, length};
+ghost use Rattle.std.specs.Prelude.{◌≡◌, Some, ◌≤◌, length};
 ghost use Rattle.run_answers.specs.Numbers.{run_length};
 ghost use Rattle.runner.specs.Line.{line_of};
 
@@ -32,17 +32,19 @@ impl Display for Line {
             RunAnswer::Value { count, length } => {
                 writeln!(f, "value {count} {}", Hex(&self.result[..length]))
             }
-            RunAnswer::Stop(
-                Stopped {
-                    reason,
-                    count,
-                    chunk,
-                    offset,
-                },
-            ) => {
-                let number = stop_number(reason);
+            RunAnswer::Stop(stop) => {
+                let number = stop_number(stop.reason);
+                let count = begun(stop);
+                let Stopped { chunk, offset, .. } = stop;
                 writeln!(f, "stop {number} {count} {}", Place { chunk, offset })
             }
         }
     }
+}
+
+// How many instructions had begun.
+fn begun(stop: Stopped) -> usize
+    ensures { result ≡ stop.count }
+{
+    stop.count
 }

@@ -11,5 +11,5 @@ returns-in-Value-clause-writes g c = λ plain ok.
 
 pub returns-in-Stop-clause-writes : goal.returns-in-Stop-clause-writes
 returns-in-Stop-clause-writes g c = λ plain ok.
-    let line = stop_line _ _ _ _ _ _ _ c.in-Stop.is c.stop_number-number.ensures (search rules) (search rules) in
+    let line = stop_line _ _ _ _ _ c.in-Stop.is c.stop_number-number.ensures c.begun-count.ensures (search rules) (search rules) in
     has_written_of_eq _ _ _ _ _ line (c.writeln-in-Stop.ensures.writes plain ok)

@@ -1,0 +1,10 @@
+-- `number_vectors::read_full` meets its contract: what has come so far is within the buffer, and the room left falls. Assumes nothing.
+
+use Rattle.std.proofs.Common.{◌≤◌, ◌-◌, length}
+use Rattle.number_vectors.proofs.read_full.Given as goal
+
+abbrev pub invariant-loop-done : goal.invariant-loop-done
+invariant-loop-done g l = l.done ≤ length l.buf
+
+abbrev pub decreases-loop-done : goal.decreases-loop-done
+decreases-loop-done g l = length l.initial.buf - l.done

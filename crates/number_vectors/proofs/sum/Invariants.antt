@@ -1,0 +1,10 @@
+-- `number_vectors::sum` meets its contract: the indices left fall. Assumes nothing.
+
+use Rattle.std.proofs.Common.{◌-◌, ◌≤◌}
+use Rattle.number_vectors.proofs.sum.Given as goal
+
+abbrev pub invariant-loop-i : goal.invariant-loop-i
+invariant-loop-i l = l.i ≤ 10
+
+abbrev pub decreases-loop-i : goal.decreases-loop-i
+decreases-loop-i l = 10 - l.i
