@@ -1,6 +1,6 @@
 -- `number_bench::repeated` meets its contract: after i turns the definition has the number at hand. Assumes nothing.
 
-use Rattle.std.proofs.Common.{◌≡◌, ℕ, inl, inr, arith}
+use Rattle.std.proofs.Common.{◌≡◌, inl, inr, arith}
 use Rattle.number_bench.proofs.Loops.{no_turn, next_turn, all_turns, faulted, no_value}
 use Rattle.number_bench.proofs.repeated.Goals as goal
 
