@@ -1,10 +1,9 @@
 -- The checker's line, in the way of the runner's (crate `definition`, specs/Runner.antt): `pass`, `fault` number, chunk and offset (these two padded
 -- with zeros to 4 digits), or `refused` number, line; all decimal, one space between, a line feed at the end.
-use Rattle.std.specs.Prelude.{List, [], ◌∷◌, ℕ}
+use Rattle.std.specs.Prelude.{◌≡◌, List, [], ◌∷◌, ℕ}
 use Rattle.definition.specs.CheckAnswer.{Checked, pass, fails}
 use Rattle.definition.specs.Answers.{CheckAnswer, checked, DecidesBytes}
 use Rattle.definition.specs.Runner.{ascii, decimal, padded, words}
-use Rattle.line_output.specs.Puts.{Puts}
 
 abbrev pub checked_line : Checked → List ℕ
 checked_line pass = words (ascii "pass" ∷ [])
@@ -14,8 +13,8 @@ abbrev pub checker_line : CheckAnswer → List ℕ
 checker_line (CheckAnswer.refusal n k) = words (ascii "refused" ∷ decimal n ∷ decimal k ∷ [])
 checker_line (checked r) = checked_line r
 
--- the line of the answer that the rules give to the bytes was put at the start of a buffer
-pub record Says (bytes out out' : List ℕ) (to : ℕ) : Type 0 where
+-- this is the line of the answer that the rules give to the bytes
+pub record Says (bytes line : List ℕ) : Type 0 where
   pub answer : CheckAnswer
   pub decided : DecidesBytes bytes answer
-  pub line : Puts out 0 (checker_line answer) out' to
+  pub shown : line ≡ checker_line answer

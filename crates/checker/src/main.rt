@@ -6,17 +6,17 @@ mod lines; // the line of an answer
 
 ghost use Rattle.std.specs.Prelude.{List, ℕ, ◌≤◌, ◌<◌, length};
 ghost use Rattle.image_input.specs.Read.{ReadOf};
-ghost use Rattle.checker.specs.Line.{Says};
+ghost use Rattle.rl_check.specs.Check.{answer_of};
+ghost use Rattle.checker.specs.Line.{checker_line, Says};
 
-use image_input::{Input, input_of, read_input};
+use image_input::read_input;
 use line_output::write_line;
-use lines::spell;
+use lines::Line;
 use rl_vm::{IMAGE_MOST, check, least};
 
-// The line for an image, at the start of `out`, and where it ends.
-fn answer_line(image: &[u8], out: &mut [u8]) -> usize
-    requires { 96 ≤ length out.old }
-    ensures { Says image.now out.old out.new result }
+// The line for an image.
+fn answer_line(image: &[u8]) -> Line
+    ensures { Says image.now (checker_line (answer_of result.0)) }
 {
     let mut bytes = [0u8; least::BYTES];
     let mut ends = [0usize; least::ENDS];
@@ -26,7 +26,7 @@ fn answer_line(image: &[u8], out: &mut [u8]) -> usize
     let mut heights = [0usize; least::HEIGHTS];
     let mut depths = [0usize; least::DEPTHS];
     let mut todo = [0usize; least::TODO];
-    let a = check(
+    Line(check(
         image,
         &mut bytes,
         &mut ends,
@@ -36,30 +36,26 @@ fn answer_line(image: &[u8], out: &mut [u8]) -> usize
         &mut heights,
         &mut depths,
         &mut todo,
-    );
-    spell(a, out)
+    ))
 }
 
 // The line for the input of which the first n bytes of `read` were read. It is the same for every such input, also for one that is longer than `read`.
-fn input_line(read: &[u8], n: usize, out: &mut [u8]) -> usize
-    requires { (65536 < length read.now) × (n ≤ length read.now) × (96 ≤ length out.old) }
-    ensures line { (input : List ℕ) → ReadOf read.now n input → Says input out.old out.new result }
-    ensures upper_bound { result ≤ length out.new }
+fn input_line(read: &[u8], n: usize) -> Line
+    requires { (65536 < length read.now) × (n ≤ length read.now) }
+    ensures { (input : List ℕ) → ReadOf read.now n input → Says input (checker_line (answer_of result.0)) }
 {
-    answer_line(&read[..n], out)
+    answer_line(&read[..n])
 }
 
 fn main(rt: HostRuntime) {
     let mut read = [0u8; IMAGE_MOST + 1];
-    let mut line = [0u8; 96];
-    let mut input = rt.stdin();
-    let mut output = rt.stdout();
     let mut errors = rt.stderr();
-    match input_of(read_input(&mut input, &mut errors, b"checker", &mut read)) {
-        Input::Bytes(n) => {
-            let k = input_line(&read, n, &mut line);
-            write_line(&mut output, &mut errors, b"checker", &line, k);
-        }
-        Input::Failed => {}
+    if let Some(n) = read_input(&mut rt.stdin(), &mut errors, "checker", &mut read).bytes() {
+        write_line(
+            &mut rt.stdout(),
+            &mut errors,
+            "checker",
+            input_line(&read, n),
+        );
     }
 }

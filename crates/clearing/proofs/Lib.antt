@@ -1,3 +1,2 @@
--- First two numbers by their order; with it, the law of a loop that clears a slice, whatever its elements.
+-- One file: two numbers by their order.
 pub mod Orders
-pub mod Cleared

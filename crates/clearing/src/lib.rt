@@ -1,44 +1,44 @@
-// Work memory back to zero, to the end of each slice: one function for each type of element.
+// Work memory back to zero, to the end of each slice.
 #![tactic(auto)]
 
-ghost use Rattle.clearing.specs.Zero.{AllZero};
+ghost use Rattle.std.specs.Prelude.{◌≡◌, ℕ, get_or};
 
-pub fn clear_u8(a: &mut [u8])
-    ensures { AllZero a.new }
-{
-    let mut i = 0;
-    while i < a.len() {
-        a[i] = 0;
-        i += 1;
-    }
+// What an element of work memory is: a number, whose zero a cleared slice holds throughout.
+pub trait Zero: Copy {
+    const ZERO: Self;
+
+    ghost ZERO: { Self };
 }
 
-pub fn clear_u16(a: &mut [u16])
-    ensures { AllZero a.new }
-{
-    let mut i = 0;
-    while i < a.len() {
-        a[i] = 0;
-        i += 1;
-    }
+impl Zero for u8 {
+    const ZERO: u8 = 0;
+
+    ghost ZERO = { 0 };
 }
 
-pub fn clear_u64(a: &mut [u64])
-    ensures { AllZero a.new }
-{
-    let mut i = 0;
-    while i < a.len() {
-        a[i] = 0;
-        i += 1;
-    }
+impl Zero for u16 {
+    const ZERO: u16 = 0;
+
+    ghost ZERO = { 0 };
 }
 
-pub fn clear_usize(a: &mut [usize])
-    ensures { AllZero a.new }
+impl Zero for u64 {
+    const ZERO: u64 = 0;
+
+    ghost ZERO = { 0 };
+}
+
+impl Zero for usize {
+    const ZERO: usize = 0;
+
+    ghost ZERO = { 0 };
+}
+
+// At a type of number the clause is `AllZero a.new` of specs/Zero.antt.
+pub fn clear<T: Zero>(a: &mut [T])
+    ensures { (i : ℕ) → get_or a.new i T.ZERO ≡ T.ZERO }
 {
-    let mut i = 0;
-    while i < a.len() {
-        a[i] = 0;
-        i += 1;
+    for x in a.iter_mut() {
+        *x = T::ZERO;
     }
 }

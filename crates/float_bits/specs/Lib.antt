@@ -1,1 +1,2 @@
+pub mod Computes
 pub mod Nearest

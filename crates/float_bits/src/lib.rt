@@ -2,47 +2,108 @@
 // The language's own conversions take no NaN; these take every value.
 #![tactic(auto)]
 
-ghost use Rattle.std.specs.Prelude.{◌≡◌, Bool, cond, ◌+◌, ◌^◌, ◌<◌};
+ghost use Rattle.std.specs.Prelude.{◌≡◌, ℕ, Bool, cond, ◌+◌, ◌^◌, ◌%◌, ◌<◌, Float};
 ghost use Rattle.std.specs.Float.Ieee as Ieee;
-ghost use Rattle.std.specs.Float.{binary32, binary64};
+ghost use Rattle.std.specs.Float.{Format, binary32, binary64};
 ghost use Rattle.std.specs.Float.Ieee.Nearest.{closest};
+ghost use Rattle.float_bits.specs.Computes.{Computes};
 ghost use Rattle.float_bits.specs.Nearest.{nearest_binary32};
 
-// The bits of x. A NaN is the quiet one with a clear sign and no payload, as a result codes it.
-pub fn word_of_f64(x: f64) -> u64
-    ensures { result ≡ Ieee.to_bits binary64 x }
-{
-    if x != x {
-        0x7ff8_0000_0000_0000
-    } else {
-        f64::to_bits(x)
+use std::ops::{Add, Div, Mul, Sub};
+
+// A float type and its bits. IEEE 754 says what its operators compute.
+pub trait FloatBits: Copy
+    + Add<Output = Self>
+    + Sub<Output = Self>
+    + Mul<Output = Self>
+    + Div<Output = Self> {
+    ghost format: { Format };
+
+    ghost float: { Self → Float };
+
+    // What of a word of 64 bits is the float's: all of it, or the low half.
+    ghost bits: { ℕ → ℕ };
+
+    // The bits of a float. A NaN is the quiet one with a clear sign and no payload, as a result codes it.
+    fn to_word(self) -> u64
+        ensures word { result ≡ Ieee.to_bits format (float self) }
+        ensures short { bits result ≡ result };
+
+    // The float with the bits w. Every pattern above the infinity's, the sign left out, is a NaN, a signalling one too.
+    fn of_word(w: u64) -> Self
+        ensures { float result ≡ Ieee.of_bits format (bits w) };
+
+    ghost sums: { Computes float (Ieee.add format) Self.can_add Self.add_gives };
+
+    ghost differences: { Computes float (Ieee.sub format) Self.can_sub Self.sub_gives };
+
+    ghost products: { Computes float (Ieee.mul format) Self.can_mul Self.mul_gives };
+
+    ghost quotients: { Computes float (Ieee.div format) Self.can_div Self.div_gives };
+}
+
+impl FloatBits for f64 {
+    ghost format = { binary64 };
+
+    ghost float = { λ x. x };
+
+    ghost bits = { λ w. w };
+
+    ghost sums = { λ x y. (tt, λ r e. e) };
+
+    ghost differences = { λ x y. (tt, λ r e. e) };
+
+    ghost products = { λ x y. (tt, λ r e. e) };
+
+    ghost quotients = { λ x y. (tt, λ r e. e) };
+
+    fn to_word(self) -> u64 {
+        if self.is_nan() {
+            0x7ff8_0000_0000_0000
+        } else {
+            self.to_bits()
+        }
+    }
+
+    fn of_word(w: u64) -> f64 {
+        if 0x7ff0_0000_0000_0000 < w % 0x8000_0000_0000_0000 {
+            f64::NAN
+        } else {
+            f64::from_bits(w)
+        }
     }
 }
 
-pub fn word_of_f32(x: f32) -> u32
-    ensures { result ≡ Ieee.to_bits binary32 x }
-{
-    if x != x { 0x7fc0_0000 } else { f32::to_bits(x) }
-}
+impl FloatBits for f32 {
+    ghost format = { binary32 };
 
-// The float with the bits w. Every pattern above the infinity's, the sign left out, is a NaN, a signalling one too.
-pub fn f64_of_word(w: u64) -> f64
-    ensures { result ≡ Ieee.of_bits binary64 w }
-{
-    if 0x7ff0_0000_0000_0000 < w % 0x8000_0000_0000_0000 {
-        0.0 / 0.0
-    } else {
-        f64::from_bits(w)
+    ghost float = { λ x. x };
+
+    ghost bits = { λ w. w % 2 ^ 32 };
+
+    ghost sums = { λ x y. (tt, λ r e. e) };
+
+    ghost differences = { λ x y. (tt, λ r e. e) };
+
+    ghost products = { λ x y. (tt, λ r e. e) };
+
+    ghost quotients = { λ x y. (tt, λ r e. e) };
+
+    fn to_word(self) -> u64 {
+        if self.is_nan() {
+            0x7fc0_0000
+        } else {
+            self.to_bits() as u64
+        }
     }
-}
 
-pub fn f32_of_word(w: u32) -> f32
-    ensures { result ≡ Ieee.of_bits binary32 w }
-{
-    if 0x7f80_0000 < w % 0x8000_0000 {
-        0.0 / 0.0
-    } else {
-        f32::from_bits(w)
+    fn of_word(w: u64) -> f32 {
+        let bits = (w % 0x1_0000_0000) as u32;
+        if 0x7f80_0000 < bits % 0x8000_0000 {
+            f32::NAN
+        } else {
+            f32::from_bits(bits)
+        }
     }
 }
 
@@ -91,14 +152,15 @@ fn nearest_magnitude(m: u64) -> u64
 }
 
 // The bits of the f32 nearest to the f64 with the bits b.
-fn nearest_word(b: u64) -> u32
-    ensures { Ieee.of_bits binary32 result ≡ nearest_binary32 (Ieee.of_bits binary64 b) }
+fn nearest_word(b: u64) -> u64
+    ensures nearest { Ieee.of_bits binary32 result ≡ nearest_binary32 (Ieee.of_bits binary64 b) }
+    ensures upper_bound { result < 2 ^ 32 }
 {
     let w = nearest_magnitude(b % 0x8000_0000_0000_0000);
     if 0x8000_0000_0000_0000 <= b {
-        (0x8000_0000 + w) as u32
+        0x8000_0000 + w
     } else {
-        w as u32
+        w
     }
 }
 
@@ -106,5 +168,5 @@ fn nearest_word(b: u64) -> u32
 pub fn nearest_f64_to_f32(x: f64) -> f32
     ensures { result ≡ nearest_binary32 x }
 {
-    f32_of_word(nearest_word(word_of_f64(x)))
+    f32::of_word(nearest_word(x.to_word()))
 }

@@ -29,13 +29,13 @@ use Rattle.image.specs.Answer.{
   slices_of,
   counts_of,
   filled,
+  LoadAnswer,
   Loads,
 }
 use Rattle.image.specs.Held.{cut, HeldChunk, HeldText, Held, Found}
-use Rattle.image_records.specs.declared.Reason.{Reason}
 use Rattle.image.specs.declared.Counts.{Counts}
-use Rattle.image.specs.declared.LoadAnswer.{LoadAnswer}
-use Rattle.image.specs.declared.LoadAnswer.TheVariants.{Loaded, Refused}
+use Rattle.image_store.specs.declared.Refusal.{Refusal}
+use Rattle.std.proofs.Common.{Ok, Err}
 use Rattle.image.proofs.Access.{
   at,
   table,
@@ -229,7 +229,7 @@ loaded_as bytes m m' n false (image im) s l e =
     }
 loaded_as bytes m m' n false (refused k j) s l e = never (cc)
 
-pub found : (bytes : List ℕ) (m m' : Slices) (r : LoadAnswer) (n : Counts) → r ≡ Loaded n → Loads bytes m r m' → Found bytes m m' n
+pub found : (bytes : List ℕ) (m m' : Slices) (r : LoadAnswer) (n : Counts) → r ≡ Ok n → Loads bytes m r m' → Found bytes m m' n
 unfolding load_in
 found bytes m m' r n q l = loaded_as bytes m m' n (short m) (load_image bytes) refl refl (rw q at l.answer)
 
@@ -239,10 +239,10 @@ refused_by false (image im) n k e = never (cc)
 refused_by false (refused m l) n k e = inr (cc)
 
 -- a refusal: a slice is short, or it is the definition's
-pub refused_as : (bytes : List ℕ) (m m' : Slices) (r : LoadAnswer) (f : Reason) (k : ℕ) → r ≡ Refused f k → Loads bytes m r m' → (short m ≡ true) ⊎
-    (load_image bytes ≡ refused (number_of f) k)
+pub refused_as : (bytes : List ℕ) (m m' : Slices) (r : LoadAnswer) (f : Refusal) → r ≡ Err f → Loads bytes m r m' → (short m ≡ true) ⊎
+    (load_image bytes ≡ refused (number_of f.reason) f.line)
 unfolding load_in
-refused_as bytes m m' r f k q l = refused_by (short m) (load_image bytes) (number_of f) k (rw q at l.answer)
+refused_as bytes m m' r f q l = refused_by (short m) (load_image bytes) (number_of f.reason) f.line (rw q at l.answer)
 
 -- one constant and one byte of a chunk, one byte of a text
 cut_at : (from to : ℕ) (l : List ℕ) (i : ℕ) → i < to - from → get_or (cut from to l) i 0 ≡ get_or l (from + i) 0

@@ -8,23 +8,24 @@ use borrow.Author.Tests.{lt-ltb, le-ltb, le-leb, lt-leb, ne_eqb}
 use lib.Dec.{ltb, eqb}
 use lib.ListN.{length, get_or, take, drop, length-drop, take-append-drop, drop_of_length-le}
 use lib.Seq.{drop-cons, drop_at, drop-drop, drop-append-le, drop-append-add, length-take-le, take-append-le}
-use Rattle.definition.specs.Lines.{is_empty, Split, split, in_front, Line, line, faulty, line_of, Seen, record_of, load_image}
+use Rattle.definition.specs.Lines.{is_empty, Split, split, in_front, Line, line, faulty, line_of, Seen, fault, record_of, load_image}
 use Rattle.definition.specs.Lines.{Record as FormatRecord}
 use Rattle.definition.proofs.Judged.{true_not_false, false_not_true, cond_elim, LineBytes, line_bytes, Told, told}
 use Rattle.line_digits.specs.Fields.{read_of, ReadFits}
-use Rattle.line_digits.specs.declared.Read.{Read}
-use Rattle.line_digits.specs.declared.Read.TheVariants.{Line as ReadLine, Faulty}
+use Rattle.line_digits.specs.declared.Line.{Line as ReadLine}
 use Rattle.line_digits.proofs.Digits.{line_here, line_open}
-use Rattle.image_records.specs.Records.{seen_of, says}
+use Rattle.image_records.specs.Records.{number_of, seen_of, said}
 use Rattle.image_records.specs.declared.Reason.{Reason}
 use Rattle.image_records.specs.declared.Reason.TheVariants.{TooLong, BadLine, NoEnd, NoSuchChunk, ShortSlice}
 use Rattle.image_records.specs.declared.State.{State}
 use Rattle.image_records.specs.declared.Record.{Record}
-use Rattle.image_records.specs.declared.Record.TheVariants.{Text, Opens, Constant, Code, Ends, Fault}
-use Rattle.image_store.specs.Stored.{advance, Fine, Accepted, finish_of}
-use Rattle.image_store.specs.declared.AfterLine.{AfterLine}
-use Rattle.image_store.specs.declared.AfterLine.TheVariants.{Next, Ready, Stop}
-use Rattle.image.specs.Answer.{Slices, holds, refuses, encoded, short, load_in, Behind, BehindMost, blanked, Loads}
+use Rattle.image_records.specs.declared.Record.TheVariants.{Text, Opens, Constant, Code, Ends}
+use Rattle.image_store.specs.Stored.{refusal_of, advance, Fine, Accepted, finish_of}
+use Rattle.image_store.specs.declared.Progress.TheVariants.{Next, Ready}
+use Rattle.image_store.specs.declared.Refusal.{Refusal}
+use Rattle.std.proofs.Common.{Option, Some, None, Ok, Err}
+use Rattle.std.specs.Prelude.{is_err}
+use Rattle.image.specs.Answer.{Slices, slices, holds, refuses, encoded, short, load_in, Behind, BehindMost, blanked, LoadAnswer, Loads}
 use Rattle.image.specs.Reading.{
   Parts,
   none_yet,
@@ -44,13 +45,11 @@ use Rattle.image.specs.Reading.{
   AfterLineFits,
   Grows,
   AfterLineLeft,
+  AfterLine,
   TakesLine,
   LoadsLines,
-  is_refused,
   LoadsSettled,
 }
-use Rattle.image.specs.declared.LoadAnswer.{LoadAnswer}
-use Rattle.image.specs.declared.LoadAnswer.TheVariants.{Loaded, Refused}
 use Rattle.image.proofs.Grown.{fine, grown}
 use Rattle.image.proofs.Blanking.{blanked_again, blanked_behind}
 
@@ -156,27 +155,26 @@ behind_most s m m' w b =
 
 -- what a record leads to
 module _ (image b : List ℕ) (p : Parts) (t : State) (k next left : ℕ) (last : Bool) (m : Slices) where
-  closed : (v w : Bool) → after_line (cond v (cond w (Ready t) (Stop NoSuchChunk 0)) (Stop NoEnd 0)) image k m ≡ cond v (cond w (holds (counts_in t)
+  closed : (v w : Bool) → after_line (cond v (cond w (Ok (Ready t)) (Err (refusal_of NoSuchChunk 0))) (Err (refusal_of NoEnd 0))) image k m ≡ cond v (cond w (holds (counts_in t)
       (held_by t m)) (refuses 7 0)) (refuses 6 0)
   closed true true = refl
   closed true false = refl
   closed false w = refl
 
   settled :
-      (r : Record) → last ≡ eqb left 0 → parts_of t m ≡ grow p (says r b)
-      → after_line (finish_of r t next left (k + 1)) image k m ≡ on_record p (k + 1) last (λ q. goes (split (drop next image)) q (k + 1)) (says r b)
+      (r : Record) → last ≡ eqb left 0 → parts_of t m ≡ grow p (said r b)
+      → after_line (finish_of r t next left) image k m ≡ on_record p (k + 1) last (λ q. goes (split (drop next image)) q (k + 1)) (said r b)
   settled Text e g = ap (λ q. goes (split (drop next image)) q (k + 1)) g
   settled (Opens arity name) e g = ap (λ q. goes (split (drop next image)) q (k + 1)) g
   settled (Constant kind v) e g = ap (λ q. goes (split (drop next image)) q (k + 1)) g
   settled Code e g = ap (λ q. goes (split (drop next image)) q (k + 1)) g
   settled Ends e g = rw (e, ← g) (closed (eqb left 0) (ltb t.named t.chunks))
-  settled (Fault f) e g = refl
 
 -- the bounds after a line
 module _ (s : State) (b : List ℕ) (at end size : ℕ) (sized : Sized s at) (digits : 2 * (length b + 1) ≡ end - at) (order : at ≤ end) (within : end <
     size) (small : size ≤ 65536) where
-  after_fits : (r : Record) (left k : ℕ) → Fine s (length b) r → AfterLineFits (finish_of r (advance s (says r b)) (end + 1) left k) at size
-  after_fits Text left k h = (
+  after_fits : (r : Record) (left : ℕ) → Fine s (length b) r → AfterLineFits (finish_of r (advance s (said r b)) (end + 1) left) at size
+  after_fits Text left h = (
     record {
       few_bytes = omega arith;
       few_constants = omega arith;
@@ -189,7 +187,7 @@ module _ (s : State) (b : List ℕ) (at end size : ℕ) (sized : Sized s at) (di
     omega arith,
     omega arith,
   )
-  after_fits (Opens arity name) left k h = (
+  after_fits (Opens arity name) left h = (
     record {
       few_bytes = omega arith;
       few_constants = omega arith;
@@ -203,7 +201,7 @@ module _ (s : State) (b : List ℕ) (at end size : ℕ) (sized : Sized s at) (di
     omega arith,
     omega arith,
   )
-  after_fits (Constant kind v) left k h = (
+  after_fits (Constant kind v) left h = (
     record {
       few_bytes = omega arith;
       few_constants = omega (arith, h.1);
@@ -217,7 +215,7 @@ module _ (s : State) (b : List ℕ) (at end size : ℕ) (sized : Sized s at) (di
     omega
         arith,
   )
-  after_fits Code left k h = (
+  after_fits Code left h = (
     record {
       few_bytes = omega arith;
       few_constants = omega arith;
@@ -230,13 +228,12 @@ module _ (s : State) (b : List ℕ) (at end size : ℕ) (sized : Sized s at) (di
     omega arith,
     omega arith,
   )
-  after_fits Ends left k h =
+  after_fits Ends left h =
       cond_elim (λ r. AfterLineFits r at size) (eqb left 0)
       (λ _. cond_elim (λ r. AfterLineFits r at size) (ltb s.named s.chunks) (λ _. omega (arith, sized.as_rows)) (λ _. tt))
       (λ _. tt)
-  after_fits (Fault f) left k h = tt
 
-  state_within : (r : Record) → Fine s (length b) r → Within (advance s (says r b))
+  state_within : (r : Record) → Fine s (length b) r → Within (advance s (said r b))
   state_within Text h = record {
     within_texts = omega arith;
     within_constants = omega (arith, sized.few_constants);
@@ -275,27 +272,24 @@ module _ (s : State) (b : List ℕ) (at end size : ℕ) (sized : Sized s at) (di
       sized.few_chunks,
     );
   }
-  state_within (Fault f) h = sized_within s at (omega arith) sized
 
-grows : (s : State) (b : List ℕ) (r : Record) → Grows s (advance s (says r b))
+grows : (s : State) (b : List ℕ) (r : Record) → Grows s (advance s (said r b))
 grows s b Text = record { more_texts = omega arith; more_constants = omega arith; more_rows = omega arith }
 grows s b (Opens arity name) = record { more_texts = omega arith; more_constants = omega arith; more_rows = omega arith }
 grows s b (Constant kind v) = record { more_texts = omega arith; more_constants = omega arith; more_rows = omega arith }
 grows s b Code = record { more_texts = omega arith; more_constants = omega arith; more_rows = omega arith }
 grows s b Ends = record { more_texts = omega arith; more_constants = omega arith; more_rows = omega arith }
-grows s b (Fault f) = record { more_texts = omega arith; more_constants = omega arith; more_rows = omega arith }
 
 module _ (s t : State) (m m' : Slices) (g : Grows s t) (b : BehindState t m m') (w : Within t) where
-  after_left : (r : Record) (next left k : ℕ) → AfterLineLeft (finish_of r t next left k) s m m'
-  after_left Text next left k = (g, b)
-  after_left (Opens arity name) next left k = (g, b)
-  after_left (Constant kind v) next left k = (g, b)
-  after_left Code next left k = (g, b)
-  after_left Ends next left k =
+  after_left : (r : Record) (next left : ℕ) → AfterLineLeft (finish_of r t next left) s m m'
+  after_left Text next left = (g, b)
+  after_left (Opens arity name) next left = (g, b)
+  after_left (Constant kind v) next left = (g, b)
+  after_left Code next left = (g, b)
+  after_left Ends next left =
       cond_elim (λ r. AfterLineLeft r s m m') (eqb left 0)
       (λ _. cond_elim (λ r. AfterLineLeft r s m m') (ltb t.named t.chunks) (λ _. (g, b)) (λ _. behind_most t m m' w b))
       (λ _. behind_most t m m' w b)
-  after_left (Fault f) next left k = behind_most t m m' w b
 
 -- what a good line gives
 pub record ReadGood (image out : List ℕ) (t n at end room : ℕ) : Type 0 where
@@ -307,10 +301,10 @@ digits_length : (image : List ℕ) (at end : ℕ) → at ≤ end → end ≤ len
 digits_length image at end h g = length-take-le (end - at) (drop at image) (rw length-drop (omega arith))
 
 pub read_good :
-    (image out : List ℕ) (r : Read) (t n at end room : ℕ) → r ≡ ReadLine t n → at ≤ end → end ≤ length image
+    (image out : List ℕ) (r : Option ReadLine) (l : ReadLine) (at end room : ℕ) → r ≡ Some l → at ≤ end → end ≤ length image
     → read_of r out ≡ line_of (take (end - at) (drop at image)) → ReadFits r (length (take (end - at) (drop at image))) room
-    → ReadGood image out t n at end room
-read_good image out r t n at end room e h g s f =
+    → ReadGood image out l.tag l.size at end room
+read_good image out r l at end room e h g s f =
     let f' = rw (e, digits_length image at end h g) at f in
     record { line_is = rw e at s; fits = f'.0; digits = f'.1 }
 
@@ -359,14 +353,14 @@ bytes_kept image B out' s at end sized order within few room same behind =
 -- a line with no line feed, and one that is at fault with 2
 pub open_line :
     (image : List ℕ) (s : State) (at end k : ℕ) (m : Slices) → at ≤ end → ((j : ℕ) → at ≤ j → j < end → get_or image j 0 ≡ 10 → ⊥)
-    → at < length image → end ≡ length image → TakesLine image s at k m (Stop BadLine (k + 1)) m
+    → at < length image → end ≡ length image → TakesLine image s at k m (Err (refusal_of BadLine (k + 1))) m
 open_line image s at end k m order free h e =
     record { after = no_feed image (parts_of s m) at end k order free h e; fits = tt; left = behind_same 32768 256 13107 260 m }
 
 pub bad_line :
-    (image : List ℕ) (s : State) (r : Read) (out : List ℕ) (at end k : ℕ) (m m' : Slices) → r ≡ Faulty → at ≤ end
+    (image : List ℕ) (s : State) (r : Option ReadLine) (out : List ℕ) (at end k : ℕ) (m m' : Slices) → r ≡ None → at ≤ end
     → ((j : ℕ) → at ≤ j → j < end → get_or image j 0 ≡ 10 → ⊥) → end < length image → get_or image end 0 ≡ 10
-    → read_of r out ≡ line_of (take (end - at) (drop at image)) → BehindMost m m' → TakesLine image s at k m (Stop BadLine (k + 1)) m'
+    → read_of r out ≡ line_of (take (end - at) (drop at image)) → BehindMost m m' → TakesLine image s at k m (Err (refusal_of BadLine (k + 1))) m'
 bad_line image s r out at end k m m' e order free h f says b =
     let z : faulty ≡ line_of (take (end - at) (drop at image)) = rw e at says in
     record { after = sym (one_line image (parts_of s m) at end k order free h f ∙ rw (← z)); fits = tt; left = b }
@@ -380,17 +374,17 @@ told_as s n x y e h = rw e h
 -- what a line says where it is not at fault
 pub fine_at :
     (image : List ℕ) (s : State) (tag at end : ℕ) (b : List ℕ) (r : Record) → line tag b ≡ line_of (take (end - at) (drop at image))
-    → says r b ≡ record_of (seen_of s) tag b → Fine s (length b) r
+    → said r b ≡ record_of (seen_of s) tag b → Fine s (length b) r
 fine_at image s tag at end b r e q =
     let l = line_as (line tag b) (line_of (take (end - at) (drop at image))) e (line_bytes (take (end - at) (drop at image))) in
-    fine s b r (told_as (seen_of s) (length b) (says r b) (record_of (seen_of s) tag b) q (told (seen_of s) b l.0 l.1 tag))
+    fine s b r (told_as (seen_of s) (length b) (said r b) (record_of (seen_of s) tag b) q (told (seen_of s) b l.0 l.1 tag))
 
 fine_as : (s : State) (m n : ℕ) (r : Record) → m ≡ n → Fine s m r → Fine s n r
 fine_as s m n r e h = rw (← e) h
 
 pub fine_here :
     (image B out post : List ℕ) (s : State) (at end n tag : ℕ) (r : Record) → s.bytes ≤ length B → n ≤ length out
-    → says r (take (s.bytes + n - s.bytes) (drop s.bytes (take s.bytes B ++ (out ++ post)))) ≡ record_of (seen_of s) tag (take (s.bytes + n - s.bytes)
+    → said r (take (s.bytes + n - s.bytes) (drop s.bytes (take s.bytes B ++ (out ++ post)))) ≡ record_of (seen_of s) tag (take (s.bytes + n - s.bytes)
     (drop s.bytes (take s.bytes B ++ (out ++ post))))
     → line tag (take n out) ≡ line_of (take (end - at) (drop at image)) → Fine s n r
 fine_here image B out post s at end n tag r small room item good =
@@ -402,10 +396,10 @@ module _
     (image B out post e k p t e' k' p' t' : List ℕ) (s s2 : State) (at end n tag ln : ℕ) (r : Record) (u : AfterLine)
     (small : s.bytes ≤ length B) (room : n ≤ length out)
     (order : at ≤ end) (h : end < length image)
-    (item : says r (take (s.bytes + n - s.bytes) (drop s.bytes (take s.bytes B ++ (out ++ post)))) ≡ record_of (seen_of s) tag (take (s.bytes +
+    (item : said r (take (s.bytes + n - s.bytes) (drop s.bytes (take s.bytes B ++ (out ++ post)))) ≡ record_of (seen_of s) tag (take (s.bytes +
     n - s.bytes) (drop s.bytes (take s.bytes B ++ (out ++ post)))))
     (took : Accepted s r n e k p t s2 e' k' p' t')
-    (res : u ≡ finish_of r s2 (end + 1) (length image - (end + 1)) (ln + 1))
+    (res : u ≡ finish_of r s2 (end + 1) (length image - (end + 1)))
     (free : (j : ℕ) → at ≤ j → j < end → get_or image j 0 ≡ 10 → ⊥) (feed : get_or image end 0 ≡ 10)
     (good : line tag (take n out) ≡ line_of (take (end - at) (drop at image)))
     (digits : 2 * (n + 1) ≡ end - at)
@@ -418,8 +412,8 @@ module _
     abbrev after : Slices
     after = record { bytes = take s.bytes B ++ (out ++ post); ends = e'; kinds = k'; payloads = p'; table = t' }
 
-    said : says r (take n out) ≡ record_of (seen_of s) tag (take n out)
-    said = rw (fields_are B out post s.bytes n small room) at item
+    told_there : said r (take n out) ≡ record_of (seen_of s) tag (take n out)
+    told_there = rw (fields_are B out post s.bytes n small room) at item
 
     long : length (take n out) ≡ n
     long = length-take-le n out room
@@ -429,13 +423,13 @@ module _
         rw res
         (settled image (take n out) (parts_of s before) s2 ln (end + 1) (length image - (end + 1)) (eqb (length image - (end + 1)) 0) after r refl
         (grown r s s2 n (take n out) B (out ++ post) e k p t e' k' p' t' small (sym (take-append-le n out post room)) long took))
-        ∙ ap (on_record (parts_of s before) (ln + 1) (eqb (length image - (end + 1)) 0) (λ q. goes (split (drop (end + 1) image)) q (ln + 1))) said
+        ∙ ap (on_record (parts_of s before) (ln + 1) (eqb (length image - (end + 1)) 0) (λ q. goes (split (drop (end + 1) image)) q (ln + 1))) told_there
         ∙ sym (one_line image (parts_of s before) at end ln order free h feed ∙ rw (← good))
 
     keeps : Fine s (length (take n out)) r
-    keeps = fine_at image s tag at end (take n out) r good said
+    keeps = fine_at image s tag at end (take n out) r good told_there
 
-    state : s2 ≡ advance s (says r (take n out))
+    state : s2 ≡ advance s (said r (take n out))
     state = took.numbers (take n out) long
 
     two : 2 * (length (take n out) + 1) ≡ end - at
@@ -445,13 +439,28 @@ module _
     line_taken =
         record {
           after = turned;
-          fits = rw (res, state) (after_fits s (take n out) at end (length image) sized two order h few r (length image - (end + 1)) (ln + 1) keeps);
+          fits = rw (res, state) (after_fits s (take n out) at end (length image) sized two order h few r (length image - (end + 1)) keeps);
           left =
               rw res
               (after_left s s2 before after (rw state (grows s (take n out) r))
               (record { same_bytes = kept; same_ends = took.behind_ends; same_kinds = took.behind_kinds; same_payloads = took.behind_payloads; same_table = took.behind_table })
-              (rw state (state_within s (take n out) at end (length image) sized two order h few r keeps)) r (end + 1) (length image - (end + 1)) (ln + 1));
+              (rw state (state_within s (take n out) at end (length image) sized two order h few r keeps)) r (end + 1) (length image - (end + 1)));
         }
+
+-- a line that is at fault
+pub fault_line :
+    (image B out post e k p t : List ℕ) (s : State) (at end n tag ln : ℕ) (f : Reason) → s.bytes ≤ length B → n ≤ length out → at ≤ end → end < length image
+    → fault (number_of f) ≡ record_of (seen_of s) tag (take (s.bytes + n - s.bytes) (drop s.bytes (take s.bytes B ++ (out ++ post))))
+    → ((j : ℕ) → at ≤ j → j < end → get_or image j 0 ≡ 10 → ⊥) → get_or image end 0 ≡ 10 → line tag (take n out) ≡ line_of (take (end - at) (drop at image))
+    → drop 32768 (take s.bytes B ++ (out ++ post)) ≡ drop 32768 B
+    → TakesLine image s at ln (slices B e k p t) (Err (refusal_of f (ln + 1))) (slices (take s.bytes B ++ (out ++ post)) e k p t)
+fault_line image B out post e k p t s at end n tag ln f small room order h item free feed good kept =
+    let there = rw (fields_are B out post s.bytes n small room) at item in
+    record {
+      after = sym (one_line image (parts_of s (slices B e k p t)) at end ln order free h feed ∙ rw (← good, ← there));
+      fits = tt;
+      left = record { same_bytes = kept; same_ends = refl; same_kinds = refl; same_payloads = refl; same_table = refl };
+    }
 
 -- between two lines: m₀ are the slices as they were at first
 pub record Reading (image : List ℕ) (m₀ m : Slices) (s : State) (at k : ℕ) : Type 0 where
@@ -504,7 +513,7 @@ module _
     (image : List ℕ) (m₀ m m' : Slices) (s : State) (at k : ℕ) (u : AfterLine)
     (was : Reading image m₀ m s at k) (took : TakesLine image s at k m u m')
   where
-    pub reading_next : (t : State) (next : ℕ) → u ≡ Next t next → SameLengths m m' → Reading image m₀ m' t next (k + 1)
+    pub reading_next : (t : State) (next : ℕ) → u ≡ Ok (Next t next) → SameLengths m m' → Reading image m₀ m' t next (k + 1)
     reading_next t next q l =
         let f = rw q at took.fits in
         let b = rw q at took.left in
@@ -518,10 +527,10 @@ module _
           behind = behind_next s t m₀ m m' was.behind b.0 b.1;
         }
 
-    pub next_less : (t : State) (next : ℕ) → u ≡ Next t next → length image - next < length image - at
+    pub next_less : (t : State) (next : ℕ) → u ≡ Ok (Next t next) → length image - next < length image - at
     next_less t next q = let f = rw q at took.fits in omega (arith, f.1, f.2)
 
-    pub reading_ready : (t : State) → u ≡ Ready t → LoadsLines image m₀ (Loaded (counts_in t)) m'
+    pub reading_ready : (t : State) → u ≡ Ok (Ready t) → LoadsLines image m₀ (Ok (counts_in t)) m'
     reading_ready t q =
         let f = rw q at took.fits in
         let b = rw q at took.left in
@@ -531,8 +540,8 @@ module _
           left = rw z (behind_next s t m₀ m m' was.behind b.0 b.1);
         }
 
-    pub reading_stop : (r : Reason) (l : ℕ) → u ≡ Stop r l → length image ≤ 65536 → LoadsLines image m₀ (Refused r l) m'
-    reading_stop r l q h =
+    pub reading_stop : (f : Refusal) → u ≡ Err f → length image ≤ 65536 → LoadsLines image m₀ (Err f) m'
+    reading_stop f q h =
         let n : at ≤ 65536 = omega (arith, was.within) in
         record {
           answer = (rw q at took.after) ∙ was.here;
@@ -544,7 +553,7 @@ unfolding go split
 no_lines image p at k h = rw (drop_of_length-le image h)
 
 pub reading_end : (image : List ℕ) (m₀ m : Slices) (s : State) (at k : ℕ) → Reading image m₀ m s at k → length image ≤ at → length image ≤ 65536 →
-    LoadsLines image m₀ (Refused NoEnd 0) m
+    LoadsLines image m₀ (Err (refusal_of NoEnd 0)) m
 reading_end image m₀ m s at k was h g =
     let n : at ≤ 65536 = omega (arith, was.within) in
     record {
@@ -553,7 +562,7 @@ reading_end image m₀ m s at k was h g =
     }
 
 -- short work slices, an image that is too long, and all others
-pub loads_short : (image : List ℕ) (m : Slices) → short m ≡ true → Loads image m (Refused ShortSlice 0) m
+pub loads_short : (image : List ℕ) (m : Slices) → short m ≡ true → Loads image m (Err (refusal_of ShortSlice 0)) m
 unfolding load_in
 loads_short image m e =
     record {
@@ -612,7 +621,7 @@ module _ (m : Slices) where
   pub short_table : length m.table < 260 → short m ≡ true
   short_table h = short_or first_four (ltb (length m.table) 260) (lt-ltb (length m.table) 260 h)
 
-pub loads_long : (image : List ℕ) (m : Slices) → LoadRoomy m → 65536 < length image → Loads image m (Refused TooLong 0) m
+pub loads_long : (image : List ℕ) (m : Slices) → LoadRoomy m → 65536 < length image → Loads image m (Err (refusal_of TooLong 0)) m
 unfolding load_in load_image
 loads_long image m r h =
     record {
@@ -627,13 +636,13 @@ loads_long image m r h =
     apart g = omega arith
 
 -- a loaded image stays, a refused one is blanked; behind the named lengths the slices were the same before that
-pub settled_loaded : (image : List ℕ) (m m₁ : Slices) (r : LoadAnswer) → LoadsLines image m r m₁ → is_refused r ≡ false → LoadsSettled image m r m₁
-settled_loaded image m m₁ (Loaded n) l e = record { lines = l; blank = tt }
-settled_loaded image m m₁ (Refused r k) l e = true_not_false e
+pub settled_loaded : (image : List ℕ) (m m₁ : Slices) (r : LoadAnswer) → LoadsLines image m r m₁ → is_err r ≡ false → LoadsSettled image m r m₁
+settled_loaded image m m₁ (Ok n) l e = record { lines = l; blank = tt }
+settled_loaded image m m₁ (Err f) l e = true_not_false e
 
-pub settled_refused : (image : List ℕ) (m m₁ m₂ : Slices) (r : LoadAnswer) → LoadsLines image m r m₁ → is_refused r ≡ true → m₂ ≡ blanked m₁ → LoadsSettled image m r m₂
-settled_refused image m m₁ m₂ (Loaded n) l e b = false_not_true e
-settled_refused image m m₁ m₂ (Refused r k) l e b =
+pub settled_refused : (image : List ℕ) (m m₁ m₂ : Slices) (r : LoadAnswer) → LoadsLines image m r m₁ → is_err r ≡ true → m₂ ≡ blanked m₁ → LoadsSettled image m r m₂
+settled_refused image m m₁ m₂ (Ok n) l e b = false_not_true e
+settled_refused image m m₁ m₂ (Err f) l e b =
     let same : m₂ ≡ blanked m = b ∙ blanked_again m m₁ l.left in
     record { lines = record { answer = l.answer; left = rw same (blanked_behind m) }; blank = same }
 

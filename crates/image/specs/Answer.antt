@@ -1,11 +1,10 @@
 -- What `load` answers, and what it leaves in the work slices.
-use Rattle.std.specs.Prelude.{◌≡◌, Bool, true, false, cond, ◌||◌, List, [], ◌∷◌, ◌++◌, map, ℕ, ◌+◌, ◌*◌, ◌≤◌, ◌<◌, length, take, drop, replicate, ltb}
+use Rattle.std.specs.Prelude.{◌≡◌, Bool, true, false, cond, ◌||◌, List, [], ◌∷◌, ◌++◌, map, ℕ, ◌+◌, ◌*◌, ◌≤◌, ◌<◌, length, take, drop, replicate, ltb, Result, Ok, Err}
 use Rattle.definition.specs.Image.{Constant, Chunk, Image}
 use Rattle.definition.specs.Lines.{Load, image, refused, load_image, constants_of}
 pub use Rattle.image_records.specs.Records.{number_of}
 use Rattle.image.specs.declared.Counts.{Counts}
-use Rattle.image.specs.declared.LoadAnswer.{LoadAnswer}
-use Rattle.image.specs.declared.LoadAnswer.TheVariants.{Loaded, Refused}
+use Rattle.image_store.specs.declared.Refusal.{Refusal}
 
 -- the five work slices, or the parts of them that an image fills. `bytes`: all texts, one after another, and after them the code of all
 -- chunks; `ends`: where each text ends in `bytes`; `kinds`, `payloads`: all constants, chunk after chunk; `table`: a row of four numbers for
@@ -81,14 +80,18 @@ filled n m =
       table = take (4 * (n.chunks + 1)) m.table;
     }
 
+-- what `load` answers: how much of the slices an image fills, or why it is refused, with the line
+abbrev pub LoadAnswer : Type 0
+LoadAnswer = Result Counts Refusal
+
 -- an answer with the work slices as they are left: the counts and the filled parts, or document 01's number and line
 pub data Outcome : Type 0 where
   holds : Counts → Slices → Outcome
   refuses : ℕ → ℕ → Outcome
 
 abbrev pub outcome_of : LoadAnswer → Slices → Outcome
-outcome_of (Loaded n) m = holds n (filled n m)
-outcome_of (Refused r k) m = refuses (number_of r) k
+outcome_of (Ok n) m = holds n (filled n m)
+outcome_of (Err f) m = refuses (number_of f.reason) f.line
 
 abbrev pub encoded : Load → Outcome
 encoded (image im) = holds (counts_of im) (slices_of im)
@@ -119,8 +122,8 @@ BehindMost m m' = Behind 32768 256 13107 260 m m'
 -- Behind a loaded image `ends`, `kinds`, `payloads` and `table` are as they were. Of `bytes` nothing is said between the image's last byte and
 -- the first 32,768: fields of lines that are neither text nor code were read there. After a refusal all is as it was behind the named lengths.
 abbrev pub Left : LoadAnswer → Slices → Slices → Type 0
-Left (Loaded n) m m' = Behind 32768 n.texts n.constants (4 * (n.chunks + 1)) m m'
-Left (Refused r k) m m' = BehindMost m m'
+Left (Ok n) m m' = Behind 32768 n.texts n.constants (4 * (n.chunks + 1)) m m'
+Left (Err f) m m' = BehindMost m m'
 
 -- a slice that is zero up to this length, and as it was behind it
 unfoldable pub zero_to : ℕ → List ℕ → List ℕ
@@ -139,8 +142,8 @@ blanked m =
 
 -- of a refused image nothing stays
 abbrev pub Blanked : LoadAnswer → Slices → Slices → Type 0
-Blanked (Loaded n) m m' = Unit {0}
-Blanked (Refused r k) m m' = m' ≡ blanked m
+Blanked (Ok n) m m' = Unit {0}
+Blanked (Err f) m m' = m' ≡ blanked m
 
 -- m before and m' after. A short slice, which is 9, and an image that is too long, which is 1, leave all slices as they were; any other refusal,
 -- 2 to 7, leaves them `blanked`. So after a refusal every element of all five is settled.

@@ -37,7 +37,7 @@ pub record Held (m : Slices) (n : Counts) (im : Image) : Type 0 where
   pub chunks_held : (c : ℕ) → c < length im.chunks → HeldChunk m c (chunk_at im c)
   pub texts_held : (t : ℕ) → t < length im.texts → HeldText m t (text_at im t)
 
--- what a caller has when `load` of these bytes answers `Loaded n`, with the slices m before and m' after
+-- what a caller has when `load` of these bytes answers `Ok n`, with the slices m before and m' after
 pub record Found (bytes : List ℕ) (m m' : Slices) (n : Counts) : Type 0 where
   pub found : Image
   pub long : short m ≡ false

@@ -1,17 +1,16 @@
 -- The reading of an image, line after line, over the work slices: what the crate's own functions are held to. proofs/Nested.antt shows that
 -- it gives the image that document 01 describes.
-use Rattle.std.specs.Prelude.{◌≡◌, Bool, true, false, cond, ◌&&◌, List, [], ◌∷◌, ◌++◌, ℕ, ◌+◌, ◌*◌, ◌≤◌, ◌<◌, length, take, drop, ltb, leb}
+use Rattle.std.specs.Prelude.{◌≡◌, Bool, cond, ◌&&◌, List, [], ◌∷◌, ◌++◌, ℕ, ◌+◌, ◌*◌, ◌≤◌, ◌<◌, length, take, drop, ltb, leb, Result, Ok, Err}
 use Rattle.definition.specs.Lines.{is_empty, Split, split, Line, line, faulty, line_of, text, opens, constant, code, ends, fault, record_of}
 use Rattle.definition.specs.Lines.{Record as FormatRecord}
 use Rattle.image_records.specs.Records.{number_of, seen_of}
 use Rattle.image_records.specs.declared.Part.TheVariants.{InTexts}
 use Rattle.image_records.specs.declared.State.{State}
 use Rattle.image_store.specs.Stored.{advance, new_ends, new_kinds, new_payloads, new_row}
-use Rattle.image_store.specs.declared.AfterLine.{AfterLine}
-use Rattle.image_store.specs.declared.AfterLine.TheVariants.{Next, Ready, Stop}
-use Rattle.image.specs.Answer.{Slices, Outcome, holds, refuses, outcome_of, Behind, BehindMost, Left, Blanked}
-use Rattle.image.specs.declared.LoadAnswer.{LoadAnswer}
-use Rattle.image.specs.declared.LoadAnswer.TheVariants.{Loaded, Refused}
+use Rattle.image_store.specs.declared.Progress.{Progress}
+use Rattle.image_store.specs.declared.Progress.TheVariants.{Next, Ready}
+use Rattle.image_store.specs.declared.Refusal.{Refusal}
+use Rattle.image.specs.Answer.{Slices, Outcome, holds, refuses, outcome_of, Behind, BehindMost, Left, Blanked, LoadAnswer}
 use Rattle.image.specs.declared.Counts.{Counts}
 
 -- what was read so far: the numbers, and what the slices hold of it
@@ -113,11 +112,15 @@ pub record Sized (s : State) (at : ℕ) : Type 0 where
   pub short_code : s.code ≤ 4096
   pub few_own : s.own ≤ 256
 
+-- what a line leads to: the next line, a loaded image, or a refusal
+abbrev pub AfterLine : Type 0
+AfterLine = Result Progress Refusal
+
 -- what comes after a line, with the work slices as they are left
 abbrev pub after_line : AfterLine → List ℕ → ℕ → Slices → Outcome
-after_line (Next s at) image k m = goes (split (drop at image)) (parts_of s m) (k + 1)
-after_line (Ready s) image k m = holds (counts_in s) (held_by s m)
-after_line (Stop r l) image k m = refuses (number_of r) l
+after_line (Ok (Next s at)) image k m = goes (split (drop at image)) (parts_of s m) (k + 1)
+after_line (Ok (Ready s)) image k m = holds (counts_in s) (held_by s m)
+after_line (Err f) image k m = refuses (number_of f.reason) f.line
 
 -- from what the numbers say on, the slices are as they were
 abbrev pub BehindState : State → Slices → Slices → Type 0
@@ -125,9 +128,9 @@ BehindState s m m' = Behind 32768 s.texts s.constants (4 * s.rows) m m'
 
 -- the bounds after a line, and what the slices keep
 abbrev pub AfterLineFits : AfterLine → ℕ → ℕ → Type 0
-AfterLineFits (Next s next) at size = Sized s next × (at < next) × (next ≤ size)
-AfterLineFits (Ready s) at size = s.rows ≡ s.chunks + 1
-AfterLineFits (Stop r l) at size = Unit
+AfterLineFits (Ok (Next s next)) at size = Sized s next × (at < next) × (next ≤ size)
+AfterLineFits (Ok (Ready s)) at size = s.rows ≡ s.chunks + 1
+AfterLineFits (Err f) at size = Unit
 
 pub record Grows (s t : State) : Type 0 where
   pub more_texts : s.texts ≤ t.texts
@@ -135,9 +138,9 @@ pub record Grows (s t : State) : Type 0 where
   pub more_rows : s.rows ≤ t.rows
 
 abbrev pub AfterLineLeft : AfterLine → State → Slices → Slices → Type 0
-AfterLineLeft (Next t next) s m m' = Grows s t × BehindState t m m'
-AfterLineLeft (Ready t) s m m' = Grows s t × BehindState t m m'
-AfterLineLeft (Stop r l) s m m' = BehindMost m m'
+AfterLineLeft (Ok (Next t next)) s m m' = Grows s t × BehindState t m m'
+AfterLineLeft (Ok (Ready t)) s m m' = Grows s t × BehindState t m m'
+AfterLineLeft (Err f) s m m' = BehindMost m m'
 
 pub record TakesLine (image : List ℕ) (s : State) (at k : ℕ) (m : Slices) (u : AfterLine) (m' : Slices) : Type 0 where
   pub after : after_line u image k m' ≡ goes (split (drop at image)) (parts_of s m) k
@@ -148,10 +151,6 @@ pub record TakesLine (image : List ℕ) (s : State) (at k : ℕ) (m : Slices) (u
 pub record LoadsLines (image : List ℕ) (m : Slices) (r : LoadAnswer) (m' : Slices) : Type 0 where
   pub answer : outcome_of r m' ≡ load_of image
   pub left : Left r m m'
-
-abbrev pub is_refused : LoadAnswer → Bool
-is_refused (Loaded n) = false
-is_refused (Refused r k) = true
 
 -- all lines, and nothing left of a refused image
 pub record LoadsSettled (image : List ℕ) (m : Slices) (r : LoadAnswer) (m' : Slices) : Type 0 where

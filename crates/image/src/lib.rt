@@ -6,32 +6,29 @@ pub mod least; // the least lengths of the work slices
 
 ghost use Rattle.std.specs.Prelude.{◌≡◌, ◌≤◌, ◌<◌, length};
 ghost use Rattle.image.specs.Answer.{slices, blanked, Loads};
-ghost use Rattle.image.specs.Reading.{LoadRoomy, Sized, TakesLine, LoadsLines, is_refused, LoadsSettled};
+ghost use Rattle.image.specs.Reading.{LoadRoomy, Sized, TakesLine, LoadsLines, LoadsSettled};
 
-use clearing::{clear_u8, clear_u64, clear_usize};
+use clearing::clear;
 pub use image_records::Reason;
 use image_records::{Part, State, record_of};
-use image_store::{AfterLine, accept, finish};
-use line_digits::{Read, line_end, read_line};
+pub use image_store::Refusal;
+use image_store::{Progress, accept, finish};
+use line_digits::{line_end, read_line};
+
+// How much of the slices an image fills, or why it is refused.
+pub type LoadAnswer = Result<Counts, Refusal>;
 
 // The most bytes that an image may have.
 pub const IMAGE_MOST: usize = 65536;
 
 // How much of the work slices a loaded image fills: `bytes`, `ends`, `kinds` and `payloads` up to these counts, `table` up to one row
 // of four more than there are chunks.
-#[derive(Clone, Copy)]
+#[derive(Clone, Copy, Debug, PartialEq, Eq)]
 pub struct Counts {
     pub texts: usize,
     pub chunks: usize,
     pub constants: usize,
     pub bytes: usize,
-}
-
-// A refusal comes with the line, from 1; 0 where no line is at fault.
-#[derive(Clone, Copy)]
-pub enum LoadAnswer {
-    Loaded(Counts),
-    Refused(Reason, usize),
 }
 
 // Reads the line that begins at `at`, after k lines.
@@ -45,31 +42,26 @@ fn take_line(
     s: State,
     at: usize,
     k: usize,
-) -> AfterLine
+) -> Result<Progress, Refusal>
     requires { (at < length image.now) × (length image.now ≤ 65536) × (k ≤ at) × LoadRoomy (slices bytes.old ends.old kinds.old payloads.old table.old) × Sized s at }
     ensures { TakesLine image.now s at k (slices bytes.old ends.old kinds.old payloads.old table.old) result (slices bytes.new ends.new kinds.new payloads.new table.new) }
 {
     let end = line_end(image, at);
     if end == image.len() {
-        return AfterLine::Stop {
-            reason: Reason::BadLine,
-            line: k + 1,
-        };
+        return Err(Refusal::at_line(Reason::BadLine, k + 1));
     }
     let from = s.bytes;
-    match read_line(&image[at..end], &mut bytes[from..]) {
-        Read::Faulty => AfterLine::Stop {
-            reason: Reason::BadLine,
-            line: k + 1,
-        },
-        Read::Line { tag, size } => {
-            let to = from + size;
-            let r = record_of(tag, &bytes[from..to], s);
-            let t = accept(s, r, size, ends, kinds, payloads, table);
-            let next = end + 1;
-            finish(r, t, next, image.len() - next, k + 1)
-        }
-    }
+    let Some(line) = read_line(&image[at..end], &mut bytes[from..]) else {
+        return Err(Refusal::at_line(Reason::BadLine, k + 1));
+    };
+    let to = from + line.size;
+    let r = match record_of(line.tag, &bytes[from..to], s) {
+        Ok(r) => r,
+        Err(reason) => return Err(Refusal::at_line(reason, k + 1)),
+    };
+    let t = accept(s, r, line.size, ends, kinds, payloads, table);
+    let next = end + 1;
+    finish(r, t, next, image.len() - next)
 }
 
 // Reads all lines.
@@ -98,26 +90,26 @@ fn load_lines(
     let mut at = 0;
     let mut k = 0;
     while at < image.len() {
-        match take_line(image, bytes, ends, kinds, payloads, table, s, at, k) {
-            AfterLine::Next { state, at: next } => {
+        match take_line(image, bytes, ends, kinds, payloads, table, s, at, k)? {
+            Progress::Next { state, at: next } => {
                 s = state;
                 at = next;
                 k += 1;
             }
-            AfterLine::Ready(t) => {
-                return LoadAnswer::Loaded(Counts {
+            Progress::Ready(t) => {
+                return Ok(Counts {
                     texts: t.texts,
                     chunks: t.chunks,
                     constants: t.constants,
                     bytes: t.bytes,
                 });
             }
-            AfterLine::Stop { reason, line } => {
-                return LoadAnswer::Refused(reason, line);
-            }
         }
     }
-    LoadAnswer::Refused(Reason::NoEnd, 0)
+    Err(Refusal {
+        reason: Reason::NoEnd,
+        line: 0,
+    })
 }
 
 // Zero up to each slice's named length, which is all that reading an image may have written.
@@ -131,20 +123,11 @@ fn blank(
     requires { LoadRoomy (slices bytes.old ends.old kinds.old payloads.old table.old) }
     ensures { slices bytes.new ends.new kinds.new payloads.new table.new ≡ blanked (slices bytes.old ends.old kinds.old payloads.old table.old) }
 {
-    clear_u8(&mut bytes[..least::BYTES]);
-    clear_usize(&mut ends[..least::ENDS]);
-    clear_u8(&mut kinds[..least::KINDS]);
-    clear_u64(&mut payloads[..least::PAYLOADS]);
-    clear_usize(&mut table[..least::TABLE]);
-}
-
-fn is_refused(answer: LoadAnswer) -> bool
-    ensures { result ≡ is_refused answer }
-{
-    match answer {
-        LoadAnswer::Loaded(_) => false,
-        LoadAnswer::Refused(_, _) => true,
-    }
+    clear(&mut bytes[..least::BYTES]);
+    clear(&mut ends[..least::ENDS]);
+    clear(&mut kinds[..least::KINDS]);
+    clear(&mut payloads[..least::PAYLOADS]);
+    clear(&mut table[..least::TABLE]);
 }
 
 // An image that is not too long, in slices that are long enough. Of a refused one nothing stays in them.
@@ -160,9 +143,8 @@ fn load_roomy(
     ensures { LoadsSettled image.now (slices bytes.old ends.old kinds.old payloads.old table.old) result (slices bytes.new ends.new kinds.new payloads.new table.new) }
 {
     let answer = load_lines(image, bytes, ends, kinds, payloads, table);
-    if is_refused(answer) {
+    if answer.is_err() {
         blank(bytes, ends, kinds, payloads, table);
-        return answer;
     }
     answer
 }
@@ -179,24 +161,22 @@ pub fn load(
 ) -> LoadAnswer
     ensures { Loads image.now (slices bytes.old ends.old kinds.old payloads.old table.old) result (slices bytes.new ends.new kinds.new payloads.new table.new) }
 {
-    let small = LoadAnswer::Refused(Reason::ShortSlice, 0);
-    if bytes.len() < least::BYTES {
-        return small;
-    }
-    if ends.len() < least::ENDS {
-        return small;
-    }
-    if kinds.len() < least::KINDS {
-        return small;
-    }
-    if payloads.len() < least::PAYLOADS {
-        return small;
-    }
-    if table.len() < least::TABLE {
-        return small;
+    if bytes.len() < least::BYTES
+        || ends.len() < least::ENDS
+        || kinds.len() < least::KINDS
+        || payloads.len() < least::PAYLOADS
+        || table.len() < least::TABLE
+    {
+        return Err(Refusal {
+            reason: Reason::ShortSlice,
+            line: 0,
+        });
     }
     if IMAGE_MOST < image.len() {
-        return LoadAnswer::Refused(Reason::TooLong, 0);
+        return Err(Refusal {
+            reason: Reason::TooLong,
+            line: 0,
+        });
     }
     load_roomy(image, bytes, ends, kinds, payloads, table)
 }

@@ -5,17 +5,16 @@ use Prim.Native.Nat.{ℕ, ◌+◌, ◌*◌, ◌<◌}
 use lib.ListN.{length, get_or}
 use Rattle.definition.specs.Image.{chunk_at}
 use Rattle.definition.specs.Loaded.{no_constant}
-use Rattle.image.specs.Answer.{Slices, Loads}
+use Rattle.std.proofs.Common.{Ok}
+use Rattle.image.specs.Answer.{Slices, LoadAnswer, Loads}
 use Rattle.image.specs.Held.{Found}
 use Rattle.image.specs.declared.Counts.{Counts}
-use Rattle.image.specs.declared.LoadAnswer.{LoadAnswer}
-use Rattle.image.specs.declared.LoadAnswer.TheVariants.{Loaded}
 use Rattle.image.proofs.Found.{found, code_at, payload_at}
 
 below : {a b x y : ℕ} → a ≡ b → x ≡ y → b < y → a < x
 below p q h = rw (p, q) h
 
-module _ (bytes : List ℕ) (m m' : Slices) (r : LoadAnswer) (n : Counts) (q : r ≡ Loaded n) (l : Loads bytes m r m') where
+module _ (bytes : List ℕ) (m m' : Slices) (r : LoadAnswer) (n : Counts) (q : r ≡ Ok n) (l : Loads bytes m r m') where
   abbrev here : Found bytes m m' n
   here = found bytes m m' r n q l
 

@@ -12,8 +12,8 @@ fn code_of(a: LoadAnswer) -> u64
     ensures { result ≡ code_of a }
 {
     match a {
-        LoadAnswer::Loaded(_) => 0,
-        LoadAnswer::Refused(r, _) => refusal_number(r) as u64,
+        Ok(_) => 0,
+        Err(refusal) => refusal_number(refusal.reason) as u64,
     }
 }
 

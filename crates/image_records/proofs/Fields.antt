@@ -6,7 +6,7 @@ use Prim.Native.Nat.{ℕ, zero, suc, ◌+◌, ◌*◌, ◌^◌, ◌≤◌, ◌<�
 use native.Mathlib.Numerals.{add-one}
 use native.Mathlib.Nat.{pow-suc, pow-le-pow_right}
 use native.Mathlib.Omega.{arith}
-use borrow.Author.Tests.{le-leb, lt-leb, leb-true}
+use borrow.Author.Tests.{leb-true}
 use lib.Dec.{leb}
 use lib.ListN.{length, get_or, drop, drop_of_length-le}
 use lib.Seq.{drop-cons}
@@ -14,30 +14,31 @@ use Rattle.definition.proofs.Judged.{first, second}
 use Rattle.definition.specs.Lines.{widths, number_from, printable}
 
 -- printable
-pub plain_more : (l : List ℕ) (i : ℕ) → i < length l → 32 ≤ get_or l i 0 → get_or l i 0 ≤ 126 → printable (drop i l) ≡ printable (drop (i + 1) l)
+pub plain_more :
+    (l : List ℕ) (i : ℕ) → i < length l → (leb 32 (get_or l i 0) && leb (get_or l i 0) 126) ≡ true → printable (drop i l) ≡ printable (drop (i + 1) l)
 unfolding printable
-plain_more l i h a b = rw (add-one i, drop-cons l i 0 h, le-leb 32 (get_or l i 0) a, le-leb (get_or l i 0) 126 b)
+plain_more l i h e =
+    rw (add-one i, drop-cons l i 0 h, first (leb 32 (get_or l i 0)) (leb (get_or l i 0) 126) e, second (leb 32 (get_or l i 0)) (leb (get_or l i 0) 126) e)
 
-pub plain_low : (l : List ℕ) (i : ℕ) → i < length l → get_or l i 0 < 32 → printable (drop i l) ≡ false
+pub plain_wrong : (l : List ℕ) (i : ℕ) → i < length l → (leb 32 (get_or l i 0) && leb (get_or l i 0) 126) ≡ false → printable (drop i l) ≡ false
 unfolding printable
-plain_low l i h a = rw (drop-cons l i 0 h, lt-leb 32 (get_or l i 0) a)
-
-pub plain_high : (l : List ℕ) (i : ℕ) → i < length l → 32 ≤ get_or l i 0 → 126 < get_or l i 0 → printable (drop i l) ≡ false
-unfolding printable
-plain_high l i h a b = rw (drop-cons l i 0 h, le-leb 32 (get_or l i 0) a, lt-leb (get_or l i 0) 126 b)
+plain_wrong l i h e = rw (drop-cons l i 0 h) (either (leb 32 (get_or l i 0)) (leb (get_or l i 0) 126) (printable (drop (suc i) l)) e)
+  where
+    either : (a b c : Bool) → (a && b) ≡ false → (a && b && c) ≡ false
+    either true true c e = cc
+    either true false c e = refl
+    either false b c e = refl
 
 pub plain_end : (l : List ℕ) (i : ℕ) → length l ≤ i → printable (drop i l) ≡ true
 unfolding printable
 plain_end l i h = rw (drop_of_length-le l h)
 
 -- a number, high byte first
-pub number_more : (l : List ℕ) (v i w : ℕ) → i + 1 < length l → w ≡ get_or l (i + 1) 0 → number_from (v * 256 + w) (drop (i + 1 + 1) l) ≡ number_from v (drop (i + 1) l)
+pub number_more : (l : List ℕ) (v i w : ℕ) → i < length l → w ≡ get_or l i 0 → number_from (v * 256 + w) (drop (i + 1) l) ≡ number_from v (drop i l)
 unfolding number_from
-number_more l v i w h e =
-    let n : i + 1 + 1 ≡ suc (i + 1) = omega arith in
-    rw (n, drop-cons l (i + 1) 0 h, e)
+number_more l v i w h e = rw (add-one i, drop-cons l i 0 h, e)
 
-pub number_end : (l : List ℕ) (v i : ℕ) → length l ≤ i + 1 → v ≡ number_from v (drop (i + 1) l)
+pub number_end : (l : List ℕ) (v i : ℕ) → length l ≤ i → v ≡ number_from v (drop i l)
 unfolding number_from
 number_end l v i h = rw (drop_of_length-le l h)
 
@@ -53,9 +54,6 @@ number_step v w i g h = rw (add-one i, pow-suc 256 i) (by (256 ^ i) g)
   where
     by : (p : ℕ) → v < p → v * 256 + w < p * 256
     by p g = omega arith
-
-pub number_next : (u v w i : ℕ) → u ≡ v * 256 + w → v < 256 ^ i → w < 256 → u < 256 ^ (i + 1)
-number_next u v w i e g h = rw e (number_step v w i g h)
 
 -- no payload is wider than 8 bytes
 abbrev all_small : List ℕ → Bool

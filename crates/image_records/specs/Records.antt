@@ -1,5 +1,5 @@
 -- What a line says, as the definition has it, and the numbers of the refusals.
-use Rattle.std.specs.Prelude.{List, ℕ}
+use Rattle.std.specs.Prelude.{List, ℕ, Result, Ok, Err}
 use Rattle.definition.specs.Lines.{Seen, text, opens, constant, code, ends, fault, in_texts, in_constants, in_code, after_short}
 use Rattle.definition.specs.Lines.{Part as FormatPart, Record as FormatRecord}
 use Rattle.image_records.specs.declared.Reason.{Reason}
@@ -8,7 +8,7 @@ use Rattle.image_records.specs.declared.Part.{Part}
 use Rattle.image_records.specs.declared.Part.TheVariants.{InTexts, InConstants, InCode, AfterShort}
 use Rattle.image_records.specs.declared.State.{State}
 use Rattle.image_records.specs.declared.Record.{Record}
-use Rattle.image_records.specs.declared.Record.TheVariants.{Text, Opens, Constant, Code, Ends, Fault}
+use Rattle.image_records.specs.declared.Record.TheVariants.{Text, Opens, Constant, Code, Ends}
 
 -- document 01's number of a refusal
 abbrev pub number_of : Reason → ℕ
@@ -32,10 +32,14 @@ abbrev pub seen_of : State → Seen
 seen_of s = record { part = part_of s.part; texts = s.texts; chunks = s.chunks; constants = s.own; code = s.code }
 
 -- what a record says with the fields b
-abbrev pub says : Record → List ℕ → FormatRecord
-says Text b = text b
-says (Opens arity name) b = opens arity name
-says (Constant kind v) b = constant kind v
-says Code b = code b
-says Ends b = ends
-says (Fault r) b = fault (number_of r)
+abbrev pub said : Record → List ℕ → FormatRecord
+said Text b = text b
+said (Opens arity name) b = opens arity name
+said (Constant kind v) b = constant kind v
+said Code b = code b
+said Ends b = ends
+
+-- what a line says, or its fault
+abbrev pub says : Result Record Reason → List ℕ → FormatRecord
+says (Ok r) b = said r b
+says (Err f) b = fault (number_of f)

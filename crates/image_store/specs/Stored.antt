@@ -1,16 +1,22 @@
 -- What a line's record leaves in the work slices and in the numbers that say how much they hold, and what comes after it.
-use Rattle.std.specs.Prelude.{◌≡◌, cond, List, [], ◌∷◌, ◌++◌, ℕ, ◌+◌, ◌*◌, ◌≤◌, ◌<◌, length, take, drop, ltb, eqb}
+use Rattle.std.specs.Prelude.{◌≡◌, cond, List, [], ◌∷◌, ◌++◌, ℕ, ◌+◌, ◌*◌, ◌≤◌, ◌<◌, length, take, drop, ltb, eqb, Result, Ok, Err}
 use Rattle.definition.specs.Lines.{text, opens, constant, code, ends, fault}
 use Rattle.definition.specs.Lines.{Record as FormatRecord}
-use Rattle.image_records.specs.Records.{says}
+use Rattle.image_records.specs.Records.{said}
+use Rattle.image_records.specs.declared.Reason.{Reason}
 use Rattle.image_records.specs.declared.Reason.TheVariants.{NoEnd, NoSuchChunk}
 use Rattle.image_records.specs.declared.Part.{Part}
 use Rattle.image_records.specs.declared.Part.TheVariants.{InTexts, InConstants, InCode, AfterShort}
 use Rattle.image_records.specs.declared.State.{State}
 use Rattle.image_records.specs.declared.Record.{Record}
-use Rattle.image_records.specs.declared.Record.TheVariants.{Text, Opens, Constant, Code, Ends, Fault}
-use Rattle.image_store.specs.declared.AfterLine.{AfterLine}
-use Rattle.image_store.specs.declared.AfterLine.TheVariants.{Next, Ready, Stop}
+use Rattle.image_records.specs.declared.Record.TheVariants.{Text, Opens, Constant, Code, Ends}
+use Rattle.image_store.specs.declared.Progress.{Progress}
+use Rattle.image_store.specs.declared.Progress.TheVariants.{Next, Ready}
+use Rattle.image_store.specs.declared.Refusal.{Refusal}
+
+-- a refusal for this reason, at this line; 0 where no line is at fault
+abbrev pub refusal_of : Reason → ℕ → Refusal
+refusal_of r k = record { reason = r; line = k }
 
 -- the numbers after a text of n bytes, a chunk, a constant, n bytes of code, the end
 abbrev pub after_text : State → ℕ → State
@@ -138,7 +144,6 @@ Fine s n (Opens arity name) = s.chunks < 64
 Fine s n (Constant kind v) = (s.own < 256) × (0 < n)
 Fine s n Code = s.code + n ≤ 4096
 Fine s n Ends = Unit
-Fine s n (Fault r) = Unit
 
 pub record CanAccept (s : State) (r : Record) (n : ℕ) (ends kinds payloads table : List ℕ) : Type 0 where
   pub room_ends : 256 ≤ length ends
@@ -156,21 +161,20 @@ pub record CanAccept (s : State) (r : Record) (n : ℕ) (ends kinds payloads tab
 
 -- the numbers and the slices after it, for any fields b, n in number
 pub record Accepted (s : State) (r : Record) (n : ℕ) (ends kinds payloads table : List ℕ) (t : State) (ends' kinds' payloads' table' : List ℕ) : Type 0 where
-  pub numbers : (b : List ℕ) → length b ≡ n → t ≡ advance s (says r b)
-  pub ended : (b : List ℕ) → length b ≡ n → take t.texts ends' ≡ take s.texts ends ++ new_ends s (says r b)
-  pub kinded : (b : List ℕ) → take t.constants kinds' ≡ take s.constants kinds ++ new_kinds (says r b)
-  pub paid : (b : List ℕ) → take t.constants payloads' ≡ take s.constants payloads ++ new_payloads (says r b)
-  pub rowed : (b : List ℕ) → take (4 * t.rows) table' ≡ take (4 * s.rows) table ++ new_row s (says r b)
+  pub numbers : (b : List ℕ) → length b ≡ n → t ≡ advance s (said r b)
+  pub ended : (b : List ℕ) → length b ≡ n → take t.texts ends' ≡ take s.texts ends ++ new_ends s (said r b)
+  pub kinded : (b : List ℕ) → take t.constants kinds' ≡ take s.constants kinds ++ new_kinds (said r b)
+  pub paid : (b : List ℕ) → take t.constants payloads' ≡ take s.constants payloads ++ new_payloads (said r b)
+  pub rowed : (b : List ℕ) → take (4 * t.rows) table' ≡ take (4 * s.rows) table ++ new_row s (said r b)
   pub behind_ends : drop t.texts ends' ≡ drop t.texts ends
   pub behind_kinds : drop t.constants kinds' ≡ drop t.constants kinds
   pub behind_payloads : drop t.constants payloads' ≡ drop t.constants payloads
   pub behind_table : drop (4 * t.rows) table' ≡ drop (4 * t.rows) table
 
 -- what comes after a line that says r: s are the numbers after it, `next` is where the next line begins, and `left` bytes follow
-abbrev pub finish_of : Record → State → ℕ → ℕ → ℕ → AfterLine
-finish_of Text s next left k = Next s next
-finish_of (Opens arity name) s next left k = Next s next
-finish_of (Constant kind v) s next left k = Next s next
-finish_of Code s next left k = Next s next
-finish_of Ends s next left k = cond (eqb left 0) (cond (ltb s.named s.chunks) (Ready s) (Stop NoSuchChunk 0)) (Stop NoEnd 0)
-finish_of (Fault r) s next left k = Stop r k
+abbrev pub finish_of : Record → State → ℕ → ℕ → Result Progress Refusal
+finish_of Text s next left = Ok (Next s next)
+finish_of (Opens arity name) s next left = Ok (Next s next)
+finish_of (Constant kind v) s next left = Ok (Next s next)
+finish_of Code s next left = Ok (Next s next)
+finish_of Ends s next left = cond (eqb left 0) (cond (ltb s.named s.chunks) (Ok (Ready s)) (Err (refusal_of NoSuchChunk 0))) (Err (refusal_of NoEnd 0))

@@ -3,43 +3,46 @@
 #![tactic(auto)]
 
 ghost use Rattle.std.specs.Prelude.{◌≡◌, [], ◌∷◌, ◌++◌, ◌+◌, ◌≤◌, length, take, drop};
-ghost use Rattle.image_store.specs.Stored.{named_by, part_after, after_text, after_chunk, after_constant, after_code, after_end, CanAccept, Accepted, finish_of};
+ghost use Rattle.image_store.specs.Stored.{refusal_of, named_by, part_after, after_text, after_chunk, after_constant, after_code, after_end, CanAccept, Accepted, finish_of};
 
 use image_records::{Part, Reason, Record, State};
 
-// What a line leads to: the next line, a loaded image, or a refusal.
-#[derive(Clone, Copy)]
-pub enum AfterLine {
+// What a line leads to that is not at fault: the next line, or a loaded image.
+#[derive(Clone, Copy, Debug, PartialEq, Eq)]
+pub enum Progress {
     Next { state: State, at: usize },
     Ready(State),
-    Stop { reason: Reason, line: usize },
+}
+
+// Why an image is refused, with the line from 1; 0 where no line is at fault.
+#[derive(Clone, Copy, Debug, PartialEq, Eq)]
+pub struct Refusal {
+    pub reason: Reason,
+    pub line: usize,
+}
+
+impl Refusal {
+    pub fn at_line(reason: Reason, line: usize) -> Refusal
+        ensures { result ≡ refusal_of reason line }
+    {
+        Refusal { reason, line }
+    }
 }
 
 // A row of the table: four numbers at `at`.
-fn put_row(table: &mut [usize], at: usize, a: usize, b: usize, c: usize, d: usize)
+fn put_row(table: &mut [usize], at: usize, row: [usize; 4])
     requires { (at + 4 ≤ length table.old) × (at ≤ 256) }
-    ensures written { take (at + 4) table.new ≡ take at table.old ++ (a ∷ b ∷ c ∷ d ∷ []) }
+    ensures written { take (at + 4) table.new ≡ take at table.old ++ row }
     ensures behind { drop (at + 4) table.new ≡ drop (at + 4) table.old }
 {
-    table[at] = a;
-    table[at + 1] = b;
-    table[at + 2] = c;
-    table[at + 3] = d;
+    table[at..at + 4].copy_from_slice(&row);
 }
 
 // The highest chunk number that a Function names, with one constant more.
 fn higher(named: u64, kind: u8, v: u64) -> u64
     ensures { result ≡ named_by named kind v }
 {
-    if kind == 20 {
-        if named < v {
-            return v;
-        } else {
-            return named;
-        }
-    } else {
-        return named;
-    }
+    if kind == 20 && named < v { v } else { named }
 }
 
 // After a code line of fewer than 64 bytes no other may come.
@@ -60,13 +63,8 @@ fn after_text(s: State, n: usize) -> State
     State {
         part: Part::InTexts,
         texts: s.texts + 1,
-        chunks: s.chunks,
-        own: s.own,
-        code: s.code,
-        named: s.named,
-        constants: s.constants,
         bytes: s.bytes + n,
-        rows: s.rows,
+        ..s
     }
 }
 
@@ -76,14 +74,11 @@ fn after_chunk(s: State) -> State
 {
     State {
         part: Part::InConstants,
-        texts: s.texts,
         chunks: s.chunks + 1,
         own: 0,
         code: 0,
-        named: s.named,
-        constants: s.constants,
-        bytes: s.bytes,
         rows: s.rows + 1,
+        ..s
     }
 }
 
@@ -93,14 +88,10 @@ fn after_constant(s: State, kind: u8, v: u64) -> State
 {
     State {
         part: Part::InConstants,
-        texts: s.texts,
-        chunks: s.chunks,
         own: s.own + 1,
-        code: s.code,
         named: higher(s.named, kind, v),
         constants: s.constants + 1,
-        bytes: s.bytes,
-        rows: s.rows,
+        ..s
     }
 }
 
@@ -111,14 +102,9 @@ fn after_code(s: State, n: usize) -> State
 {
     State {
         part: part_after(n),
-        texts: s.texts,
-        chunks: s.chunks,
-        own: s.own,
         code: s.code + n,
-        named: s.named,
-        constants: s.constants,
         bytes: s.bytes + n,
-        rows: s.rows,
+        ..s
     }
 }
 
@@ -126,17 +112,9 @@ fn after_end(s: State) -> State
     requires { s.rows ≤ 64 }
     ensures { result ≡ after_end s }
 {
-    let part = s.part;
     State {
-        part,
-        texts: s.texts,
-        chunks: s.chunks,
-        own: s.own,
-        code: s.code,
-        named: s.named,
-        constants: s.constants,
-        bytes: s.bytes,
         rows: s.rows + 1,
+        ..s
     }
 }
 
@@ -153,62 +131,44 @@ pub fn accept(
     requires { CanAccept s r n ends.old kinds.old payloads.old table.old }
     ensures { Accepted s r n ends.old kinds.old payloads.old table.old result ends.new kinds.new payloads.new table.new }
 {
-    let texts = s.texts;
-    let constants = s.constants;
-    let bytes = s.bytes;
-    let rows = s.rows;
     match r {
         Record::Text => {
-            ends[texts] = bytes + n;
+            ends[s.texts] = s.bytes + n;
             after_text(s, n)
         }
         Record::Opens { arity, name } => {
-            put_row(table, 4 * rows, arity, name, constants, bytes);
+            put_row(table, 4 * s.rows, [arity, name, s.constants, s.bytes]);
             after_chunk(s)
         }
         Record::Constant { kind, payload } => {
-            kinds[constants] = kind;
-            payloads[constants] = payload;
+            kinds[s.constants] = kind;
+            payloads[s.constants] = payload;
             after_constant(s, kind, payload)
         }
         Record::Code => after_code(s, n),
         Record::Ends => {
-            put_row(table, 4 * rows, 0, 0, constants, bytes);
+            put_row(table, 4 * s.rows, [0, 0, s.constants, s.bytes]);
             after_end(s)
         }
-        Record::Fault(_) => s,
     }
 }
 
-// What comes after a line k that says r.
-pub fn finish(r: Record, s: State, next: usize, left: usize, k: usize) -> AfterLine
-    ensures { result ≡ finish_of r s next left k }
+// What comes after a line that says r.
+pub fn finish(r: Record, s: State, next: usize, left: usize) -> Result<Progress, Refusal>
+    ensures { result ≡ finish_of r s next left }
 {
     match r {
-        Record::Text => AfterLine::Next { state: s, at: next },
-        Record::Opens { arity: _, name: _ } => AfterLine::Next { state: s, at: next },
-        Record::Constant {
-            kind: _,
-            payload: _,
-        } => AfterLine::Next { state: s, at: next },
-        Record::Code => AfterLine::Next { state: s, at: next },
-        Record::Ends => {
-            if left == 0 {
-                if s.named < s.chunks as u64 {
-                    AfterLine::Ready(s)
-                } else {
-                    AfterLine::Stop {
-                        reason: Reason::NoSuchChunk,
-                        line: 0,
-                    }
-                }
-            } else {
-                AfterLine::Stop {
-                    reason: Reason::NoEnd,
-                    line: 0,
-                }
-            }
+        Record::Text | Record::Opens { .. } | Record::Constant { .. } | Record::Code => {
+            Ok(Progress::Next { state: s, at: next })
         }
-        Record::Fault(f) => AfterLine::Stop { reason: f, line: k },
+        Record::Ends if left != 0 => Err(Refusal {
+            reason: Reason::NoEnd,
+            line: 0,
+        }),
+        Record::Ends if s.named < s.chunks as u64 => Ok(Progress::Ready(s)),
+        Record::Ends => Err(Refusal {
+            reason: Reason::NoSuchChunk,
+            line: 0,
+        }),
     }
 }

@@ -6,12 +6,13 @@ use mathlib.Core.Option.{Option, none, some}
 use Prim.Native.Nat.{ℕ, suc, ◌+◌, ◌*◌, ◌-◌, ◌%◌, ◌≤◌, ◌<◌}
 use native.Mathlib.Numerals.{add-one}
 use native.Mathlib.Omega.{arith}
-use borrow.Author.Tests.{lt-ltb, le-leb, lt-leb, ne_eqb}
+use borrow.Author.Tests.{le-leb, lt-leb, ne_eqb}
 use lib.Dec.{ltb, leb, eqb}
 use lib.ListN.{length, get_or, take, drop, set, length-drop, length-take, drop_of_length-le, take-append-drop}
 use lib.Seq.{drop-cons, take-suc-set, split_at, get_or-drop, get_or-take, drop-drop, drop-set-lt, length-take-le}
 use Rattle.definition.specs.Lines.{split, digit, with_byte, bytes_of, line, faulty, line_of}
-use Rattle.line_digits.specs.Fields.{decoded, written, over}
+use Rattle.std.proofs.Common.{Some, None}
+use Rattle.line_digits.specs.Fields.{pair_of, decoded, written, over}
 
 -- digits
 abbrev pub prepend : List ℕ → Option (List ℕ) → Option (List ℕ)
@@ -33,37 +34,37 @@ bytes_odd [] e = let z : ⊥ = omega arith in absurd z
 bytes_odd (a ∷ []) e = refl
 bytes_odd (a ∷ b ∷ r) e = ap (with_byte (digit a) (digit b)) (bytes_odd r (omega arith))
 
--- a place behind whole pairs of an even number of digits has two digits more, or none
-pub pair_left : (n i p : ℕ) → (n % 2 ≡ 1 → ⊥) → 2 * i + 2 ≡ p → p < n → p + 1 < n
-pair_left n i p even e l = omega arith
-
 module _ (l q : List ℕ) (p : ℕ) (inv : bytes_of l ≡ prepend q (bytes_of (drop p l))) where
-  pub decode_first : p + 1 < length l → digit (get_or l p 0) ≡ 16 → bytes_of l ≡ none
-  decode_first h e = inv ∙ rw (bytes_two l p h, e) (none_first (bytes_of (drop (p + 2) l)))
+  pub decode_stops : (next : ℕ) → next ≡ p + 1 → next < length l → pair_of (get_or l p 0) (get_or l next 0) ≡ None → bytes_of l ≡ none
+  decode_stops next z h e =
+      inv ∙ rw (bytes_two l p (rw (← z) h)) (stops (digit (get_or l p 0)) (digit (get_or l (p + 1) 0)) (bytes_of (drop (p + 2) l)) (rw z at e))
     where
-      none_first : (o : Option (List ℕ)) → prepend q (with_byte 16 (digit (get_or l (p + 1) 0)) o) ≡ none
-      none_first none = refl
-      none_first (some b) = refl
+      by_test : (t : Bool) (v : ℕ) (b : List ℕ) → cond t (Some v) None ≡ None → prepend q (cond t (some (v ∷ b)) none) ≡ none
+      by_test true v b e = cc
+      by_test false v b e = refl
 
-  pub decode_second : p + 1 < length l → digit (get_or l (p + 1) 0) ≡ 16 → bytes_of l ≡ none
-  decode_second h e = inv ∙ rw (bytes_two l p h, e) (none_second (digit (get_or l p 0)) (bytes_of (drop (p + 2) l)))
+      stops : (a b : ℕ) (o : Option (List ℕ)) → cond (ltb a 16 && ltb b 16) (Some (a * 16 + b)) None ≡ None → prepend q (with_byte a b o) ≡ none
+      stops a b none e = refl
+      stops a b (some c) e = by_test (ltb a 16 && ltb b 16) (a * 16 + b) c e
+
+  pub decode_more :
+      (v next : ℕ) → next ≡ p + 1 → next < length l → pair_of (get_or l p 0) (get_or l next 0) ≡ Some v
+      → bytes_of l ≡ prepend (q ++ (v ∷ [])) (bytes_of (drop (p + 2) l))
+  decode_more v next z h e =
+      inv ∙ rw (bytes_two l p (rw (← z) h)) (goes_on (digit (get_or l p 0)) (digit (get_or l (p + 1) 0)) (bytes_of (drop (p + 2) l)) (rw z at e))
     where
-      either : (t : Bool) (b : List ℕ) → prepend q (cond (t && false) (some b) none) ≡ none
-      either true b = refl
-      either false b = refl
+      by_test :
+          (t : Bool) (w : ℕ) (b : List ℕ) → cond t (Some w) None ≡ Some v → prepend q (cond t (some (w ∷ b)) none) ≡ prepend (q ++ (v ∷ [])) (some b)
+      by_test true w b e =
+          let same : w ≡ v = cc in
+          rw (same, append_assoc)
+      by_test false w b e = cc
 
-      none_second : (a : ℕ) (o : Option (List ℕ)) → prepend q (with_byte a 16 o) ≡ none
-      none_second a none = refl
-      none_second a (some b) = either (ltb a 16) ((a * 16 + 16) ∷ b)
-
-  pub decode_more : p + 1 < length l → (a b : ℕ) → a ≡ digit (get_or l p 0) → b ≡ digit (get_or l (p + 1) 0) → a < 16 → b < 16 → bytes_of l ≡ prepend (q ++
-      ((a * 16 + b) ∷ [])) (bytes_of (drop (p + 2) l))
-  decode_more h a b ea eb la lb =
-      inv ∙ rw (bytes_two l p h, ← ea, ← eb) (both (bytes_of (drop (p + 2) l)))
-    where
-      both : (o : Option (List ℕ)) → prepend q (with_byte a b o) ≡ prepend (q ++ ((a * 16 + b) ∷ [])) o
-      both none = refl
-      both (some c) = rw (lt-ltb a 16 la, lt-ltb b 16 lb, append_assoc)
+      goes_on :
+          (a b : ℕ) (o : Option (List ℕ)) → cond (ltb a 16 && ltb b 16) (Some (a * 16 + b)) None ≡ Some v
+          → prepend q (with_byte a b o) ≡ prepend (q ++ (v ∷ [])) o
+      goes_on a b none e = refl
+      goes_on a b (some c) e = by_test (ltb a 16 && ltb b 16) (a * 16 + b) c e
 
   pub decode_done : p ≡ length l → bytes_of l ≡ some q
   unfolding bytes_of
@@ -99,20 +100,31 @@ decoded_two l p h =
     rw (e, e₂, drop-cons l p 0 h₀, drop-cons l (suc p) 0 h₁)
 
 module _ (l q : List ℕ) (p : ℕ) (inv : decoded l ≡ q ++ decoded (drop p l)) where
-  pub stops_first : p + 1 < length l → digit (get_or l p 0) ≡ 16 → decoded l ≡ q
-  stops_first h e = inv ∙ rw (decoded_two l p h, e, append-nil)
-
-  pub stops_second : p + 1 < length l → digit (get_or l (p + 1) 0) ≡ 16 → decoded l ≡ q
-  stops_second h e = inv ∙ rw (decoded_two l p h, e) (none (ltb (digit (get_or l p 0)) 16) _)
+  pub decodes_stops : (next : ℕ) → next ≡ p + 1 → next < length l → pair_of (get_or l p 0) (get_or l next 0) ≡ None → decoded l ≡ q
+  decodes_stops next z h e =
+      inv
+      ∙ rw (decoded_two l p (rw (← z) h))
+      (by_test (ltb (digit (get_or l p 0)) 16 && ltb (digit (get_or l (p + 1) 0)) 16) (digit (get_or l p 0) * 16 + digit (get_or l (p + 1) 0))
+      (decoded (drop (p + 2) l)) (rw z at e))
     where
-      none : (t : Bool) (b : List ℕ) → q ++ cond (t && false) b [] ≡ q
-      none true b = rw append-nil
-      none false b = rw append-nil
+      by_test : (t : Bool) (v : ℕ) (b : List ℕ) → cond t (Some v) None ≡ None → q ++ cond t (v ∷ b) [] ≡ q
+      by_test true v b e = cc
+      by_test false v b e = rw append-nil
 
-  pub decodes_more : p + 1 < length l → (a b : ℕ) → a ≡ digit (get_or l p 0) → b ≡ digit (get_or l (p + 1) 0) → a < 16 → b < 16 → decoded l ≡ (q ++ ((a *
-      16 + b) ∷ [])) ++ decoded (drop (p + 2) l)
-  decodes_more h a b ea eb la lb =
-      inv ∙ rw (decoded_two l p h, ← ea, ← eb, lt-ltb a 16 la, lt-ltb b 16 lb, append_assoc)
+  pub decodes_more :
+      (v next : ℕ) → next ≡ p + 1 → next < length l → pair_of (get_or l p 0) (get_or l next 0) ≡ Some v
+      → decoded l ≡ (q ++ (v ∷ [])) ++ decoded (drop (p + 2) l)
+  decodes_more v next z h e =
+      inv
+      ∙ rw (decoded_two l p (rw (← z) h))
+      (by_test (ltb (digit (get_or l p 0)) 16 && ltb (digit (get_or l (p + 1) 0)) 16) (digit (get_or l p 0) * 16 + digit (get_or l (p + 1) 0))
+      (decoded (drop (p + 2) l)) (rw z at e))
+    where
+      by_test : (t : Bool) (w : ℕ) (b : List ℕ) → cond t (Some w) None ≡ Some v → q ++ cond t (w ∷ b) [] ≡ (q ++ (v ∷ [])) ++ b
+      by_test true w b e =
+          let same : w ≡ v = cc in
+          rw (same, append_assoc)
+      by_test false w b e = cc
 
   pub decodes_all : p ≡ length l → decoded l ≡ q
   unfolding decoded

@@ -6,7 +6,7 @@ ghost use Rattle.std.specs.Prelude.{◌≡◌};
 ghost use Rattle.image.specs.Answer.{number_of, slices};
 ghost use Rattle.load_answers.specs.Zero.{LoadZero};
 
-use clearing::{clear_u8, clear_u64, clear_usize};
+use clearing::clear;
 
 pub fn refusal_number(r: image::Reason) -> usize
     ensures { result ≡ number_of r }
@@ -33,9 +33,9 @@ pub fn clear_load(
 )
     ensures { LoadZero (slices bytes.new ends.new kinds.new payloads.new table.new) }
 {
-    clear_u8(bytes);
-    clear_usize(ends);
-    clear_u8(kinds);
-    clear_u64(payloads);
-    clear_usize(table);
+    clear(bytes);
+    clear(ends);
+    clear(kinds);
+    clear(payloads);
+    clear(table);
 }

@@ -11,7 +11,7 @@ mod list;
 ghost use Rattle.std.specs.Prelude.{◌≤◌, length, IfOk};
 
 use case_list::{after, put};
-use image::{IMAGE_MOST, LoadAnswer, least, load};
+use image::{IMAGE_MOST, LoadAnswer, Reason, Refusal, least, load};
 use line_digits::{hex, line_end};
 use list::{answer_mark, image_end};
 use load_answers::refusal_number;
@@ -55,14 +55,9 @@ fn decode(line: &[u8], out: &mut [u8]) -> usize {
         if line.len() - i < 2 {
             return NOT_HEX;
         }
-        let a = hex(line[i]);
-        let b = hex(line[i + 1]);
-        if a == 16 {
+        let (Some(a), Some(b)) = (hex(line[i]), hex(line[i + 1])) else {
             return NOT_HEX;
-        }
-        if b == 16 {
-            return NOT_HEX;
-        }
+        };
         if n < out.len() {
             out[n] = a * 16 + b;
             n += 1;
@@ -77,10 +72,10 @@ fn decode(line: &[u8], out: &mut [u8]) -> usize {
 // The answer as the list has it, at the start of `out`; its length.
 fn spell(a: LoadAnswer, out: &mut [u8]) -> usize {
     match a {
-        LoadAnswer::Loaded(_) => put(out, 0, b"loads"),
-        LoadAnswer::Refused(r, line) => {
+        Ok(_) => put(out, 0, b"loads"),
+        Err(Refusal { reason, line }) => {
             let mut digits = [0u8; 20];
-            let k = io::decimal(refusal_number(r) as u64, &mut digits);
+            let k = io::decimal(refusal_number(reason) as u64, &mut digits);
             let at = put(out, 0, b"refused ");
             let at = put(out, at, &digits[..k]);
             let at = put(out, at, b" ");
@@ -216,8 +211,8 @@ fn replay(rt: &impl Print, list: &[u8]) -> Result<Tally> {
 // 1 where `load` says that a work slice is too short.
 fn is_short(a: LoadAnswer) -> u64 {
     match a {
-        LoadAnswer::Loaded(_) => 0,
-        LoadAnswer::Refused(r, _) => { if refusal_number(r) == 9 { 1 } else { 0 } }
+        Err(refusal) if refusal.reason == Reason::ShortSlice => 1,
+        _ => 0,
     }
 }
 

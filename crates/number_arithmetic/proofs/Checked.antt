@@ -1,5 +1,5 @@
 -- What std's checked operations answer at a width, as the definition has it at the kind with a sign of that width. Assumes nothing.
-use Rattle.std.proofs.Common.{◌≡◌, refl, sym, ap, ◌∙◌, subst, Bool, true, false, ℕ, ◌-◌, ◌^◌, ◌<◌, ℤ, neg_ℤ, to_z, of_z, to_z-of_z, SFits, Option, Some, None, Result, Ok, Err, SomeIff, ok_or, is_ok, IsErrAnd, pos}
+use Rattle.std.proofs.Common.{◌≡◌, refl, sym, ap, ◌∙◌, subst, Bool, true, false, ℕ, ◌-◌, ◌^◌, ◌<◌, ℤ, to_z, of_z, to_z-of_z, SFits, Option, Some, None, Result, Ok, Err, SomeIff, ok_or, is_ok, IsErrAnd, pos}
 use mathlib.Core.Path.{subst⁻¹}
 use lib.Signed.{mag}
 use mir.Syntax.{Width}

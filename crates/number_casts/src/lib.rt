@@ -9,9 +9,8 @@ ghost use Rattle.number_operands.specs.Operands.{value_of};
 ghost use Rattle.numbers.specs.Casts.{cast_integer, cast_to, cast_of};
 ghost use Rattle.number_casts.specs.Whole.{whole_part_of};
 
-use number_operands::{
-    Operand, SignMagnitude, in_range, number_of_word, word_of,
-};
+use float_bits::FloatBits;
+use number_operands::{Operand, SignMagnitude, in_range, number_of_word, word_of};
 use numbers::{CastTarget, IntKind, Number, NumberFault};
 
 // The whole part of a float's magnitude: itself below 2^64, its low 64 bits below 2^127, or too large for 128 bits with a sign.
@@ -75,7 +74,7 @@ fn cast_integer(kind: IntKind, x: SignMagnitude) -> Result<Number, NumberFault>
 fn cast_truncated(kind: IntKind, x: f64) -> Result<Number, NumberFault>
     ensures { result ≡ cast_integer kind (Ieee.to_signed 127 x) }
 {
-    let b = float_bits::word_of_f64(x);
+    let b = x.to_word();
     let s = 0x8000_0000_0000_0000 <= b;
     match whole_part(b) {
         WholePart::Below64(q) => cast_integer(
@@ -156,7 +155,7 @@ fn nearest_to_int(x: i64) -> f64
 fn low_word(x: f64) -> u64
     ensures { result ≡ low_bits 64 (Ieee.to_signed 127 x) }
 {
-    let b = float_bits::word_of_f64(x);
+    let b = x.to_word();
     let s = 0x8000_0000_0000_0000 <= b;
     match whole_part(b) {
         WholePart::Below64(q) => word_of(SignMagnitude {
@@ -175,19 +174,19 @@ fn low_word(x: f64) -> u64
 pub fn int_to_float_word(p: u64) -> u64
     ensures { Ieee.of_bits binary64 result ≡ Ieee.of_int binary64 (twos_complement 63 p) }
 {
-    float_bits::word_of_f64(nearest_to_int(p.cast_signed()))
+    nearest_to_int(p.cast_signed()).to_word()
 }
 
 pub fn uint_to_float_word(p: u64) -> u64
     ensures { Ieee.of_bits binary64 result ≡ Ieee.of_int binary64 (pos p) }
 {
-    float_bits::word_of_f64(std::num::nearest_u64_to_f64(p))
+    std::num::nearest_u64_to_f64(p).to_word()
 }
 
 pub fn float_to_int_word(p: u64) -> u64
     ensures { result ≡ low_bits 64 (Ieee.to_signed 127 (Ieee.of_bits binary64 p)) }
 {
-    low_word(float_bits::f64_of_word(p))
+    low_word(f64::of_word(p))
 }
 
 pub fn cast(target: CastTarget, a: Number) -> Result<Number, NumberFault>

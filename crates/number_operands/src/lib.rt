@@ -5,9 +5,7 @@
 mod integers;
 mod operands;
 
-pub use integers::{
-    checked, in_range, int_kind_code, number_of_word, word_of,
-};
+pub use integers::{checked, in_range, int_kind_code, number_of_word, word_of};
 use numbers::IntKind;
 pub use operands::{kind_code, pair_of};
 

@@ -1,6 +1,7 @@
 -- Numbers by their words: integers of at most 32 bits, UInts, and floats.
 use Rattle.std.specs.Prelude.{◌≡◌, Bool, cond, List, [], ◌∷◌, ◌⊎◌, ℕ, suc, ◌+◌, ◌-◌, ◌≤◌, eqb, ltb, Float, ℤ, pos, neg_ℤ, Result, Ok, Err}
 use Rattle.std.specs.Float.{Format}
+use Rattle.std.specs.Float.Ieee as Ieee
 use Rattle.std.specs.Float.Ieee.{to_bits, of_bits}
 use Rattle.numbers.specs.declared.Number.TheVariants.{UInt}
 use Rattle.numbers.specs.declared.Number.{Number}
@@ -9,6 +10,8 @@ use Rattle.numbers.specs.declared.NumberFault.TheVariants as number
 use Rattle.numbers.specs.declared.IntKind.{IntKind}
 use Rattle.numbers.specs.declared.IntKind.TheVariants.{I32, U32, U8, I8, U16, I16}
 use Rattle.numbers.specs.Kinds.{int_kind_code, least_magnitude, greatest, as_kind, wrapping}
+use Rattle.number_words.specs.declared.FloatOperation.{FloatOperation}
+use Rattle.number_words.specs.declared.FloatOperation.TheVariants.{Add, Sub, Mul, Div}
 use Rattle.number_words.specs.declared.NarrowKind.{NarrowKind}
 use Rattle.number_words.specs.declared.WordAnswer.{WordAnswer}
 use Rattle.number_words.specs.declared.WordAnswer.TheVariants.{Word, Overflow}
@@ -53,6 +56,13 @@ answer_in k Overflow = Err number.Overflow
 abbrev pub wide_answer : WordAnswer → Result Number NumberFault
 wide_answer (Word w) = Ok (UInt w)
 wide_answer Overflow = Err number.Overflow
+
+-- the operation of IEEE 754
+abbrev pub operation_of : FloatOperation → Format → Float → Float → Float
+operation_of Add = Ieee.add
+operation_of Sub = Ieee.sub
+operation_of Mul = Ieee.mul
+operation_of Div = Ieee.div
 
 -- the word of a float: its bits, a NaN's one word included, from which the float comes back
 pub record FloatWord (f : Format) (x : Float) (w : ℕ) : Type 0 where

@@ -5,15 +5,15 @@
 
 ghost use Rattle.std.specs.Prelude.{◌≡◌, ◌+◌, ◌≤◌, ◌<◌, ltb, ◌+ℤ◌, ◌-ℤ◌, ◌*ℤ◌, pos};
 ghost use Rattle.std.specs.Float.Ieee as Ieee;
-ghost use Rattle.std.specs.Float.{binary32, binary64};
 ghost use Rattle.std.proofs.Math.IntN.{sub_ℕ};
 ghost use Rattle.numbers.specs.declared.IntKind.{IntKind};
 ghost use Rattle.numbers.specs.declared.IntKind.TheVariants.{U64};
 ghost use Rattle.numbers.specs.Kinds.{wrapping};
 ghost use Rattle.numbers.specs.Arithmetic.{checked};
 ghost use Rattle.numbers.specs.Compare.{integer_order};
-ghost use Rattle.number_words.specs.Words.{narrow_kind, IsOf, turn, signed, answer_in, wide_answer, FloatWord};
+ghost use Rattle.number_words.specs.Words.{narrow_kind, IsOf, turn, signed, answer_in, wide_answer, FloatWord, operation_of};
 
+use float_bits::FloatBits;
 use std::cmp::Ordering;
 
 // How many numbers a kind has, and how many of them are negative.
@@ -204,51 +204,30 @@ pub fn order_u64(p: u64, q: u64) -> Ordering
     }
 }
 
-// Two Floats or two SFloats by their words: one operation of IEEE 754 each.
-pub fn add_f64(p: u64, q: u64) -> u64
-    ensures { FloatWord binary64 (Ieee.add binary64 (Ieee.of_bits binary64 p) (Ieee.of_bits binary64 q)) result }
-{
-    float_bits::word_of_f64(float_bits::f64_of_word(p) + float_bits::f64_of_word(q))
+// The operations of IEEE 754 on two floats.
+#[derive(Clone, Copy)]
+pub enum FloatOperation {
+    Add,
+    Sub,
+    Mul,
+    Div,
 }
 
-pub fn sub_f64(p: u64, q: u64) -> u64
-    ensures { FloatWord binary64 (Ieee.sub binary64 (Ieee.of_bits binary64 p) (Ieee.of_bits binary64 q)) result }
+fn computed<F: FloatBits>(operation: FloatOperation, x: F, y: F) -> F
+    ensures { F.float result ≡ operation_of operation F.format (F.float x) (F.float y) }
 {
-    float_bits::word_of_f64(float_bits::f64_of_word(p) - float_bits::f64_of_word(q))
+    match operation {
+        FloatOperation::Add => x + y,
+        FloatOperation::Sub => x - y,
+        FloatOperation::Mul => x * y,
+        FloatOperation::Div => x / y,
+    }
 }
 
-pub fn mul_f64(p: u64, q: u64) -> u64
-    ensures { FloatWord binary64 (Ieee.mul binary64 (Ieee.of_bits binary64 p) (Ieee.of_bits binary64 q)) result }
+// Two Floats or two SFloats by their words.
+pub fn float_words<F: FloatBits>(operation: FloatOperation, p: u64, q: u64) -> u64
+    ensures value { FloatWord F.format (operation_of operation F.format (Ieee.of_bits F.format (F.bits p)) (Ieee.of_bits F.format (F.bits q))) result }
+    ensures short { F.bits result ≡ result }
 {
-    float_bits::word_of_f64(float_bits::f64_of_word(p) * float_bits::f64_of_word(q))
-}
-
-pub fn div_f64(p: u64, q: u64) -> u64
-    ensures { FloatWord binary64 (Ieee.div binary64 (Ieee.of_bits binary64 p) (Ieee.of_bits binary64 q)) result }
-{
-    float_bits::word_of_f64(float_bits::f64_of_word(p) / float_bits::f64_of_word(q))
-}
-
-pub fn add_f32(p: u32, q: u32) -> u32
-    ensures { FloatWord binary32 (Ieee.add binary32 (Ieee.of_bits binary32 p) (Ieee.of_bits binary32 q)) result }
-{
-    float_bits::word_of_f32(float_bits::f32_of_word(p) + float_bits::f32_of_word(q))
-}
-
-pub fn sub_f32(p: u32, q: u32) -> u32
-    ensures { FloatWord binary32 (Ieee.sub binary32 (Ieee.of_bits binary32 p) (Ieee.of_bits binary32 q)) result }
-{
-    float_bits::word_of_f32(float_bits::f32_of_word(p) - float_bits::f32_of_word(q))
-}
-
-pub fn mul_f32(p: u32, q: u32) -> u32
-    ensures { FloatWord binary32 (Ieee.mul binary32 (Ieee.of_bits binary32 p) (Ieee.of_bits binary32 q)) result }
-{
-    float_bits::word_of_f32(float_bits::f32_of_word(p) * float_bits::f32_of_word(q))
-}
-
-pub fn div_f32(p: u32, q: u32) -> u32
-    ensures { FloatWord binary32 (Ieee.div binary32 (Ieee.of_bits binary32 p) (Ieee.of_bits binary32 q)) result }
-{
-    float_bits::word_of_f32(float_bits::f32_of_word(p) / float_bits::f32_of_word(q))
+    computed(operation, F::of_word(p), F::of_word(q)).to_word()
 }

@@ -13,18 +13,18 @@ use Rattle.definition.specs.Answers.{AnswersLoaded}
 use Rattle.definition.proofs.Judged.{true_not_false}
 use Rattle.definition.proofs.OneAnswer.{bytes_settled}
 use Rattle.definition.proofs.Protected.{passed_protected}
-use Rattle.image.specs.Answer.{Slices, number_of, short, Loads, refuses, load_in}
+use Rattle.image.specs.Answer.{Slices, number_of, short, LoadAnswer, Loads, refuses, load_in}
 use Rattle.image.specs.Held.{Held, HeldChunk, Found}
 use Rattle.image_records.specs.declared.Reason.{Reason}
 use Rattle.image_records.specs.declared.Reason.TheVariants.{ShortSlice}
 use Rattle.image.specs.declared.Counts.{Counts}
-use Rattle.image.specs.declared.LoadAnswer.{LoadAnswer}
-use Rattle.image.specs.declared.LoadAnswer.TheVariants as load
+use Rattle.image_store.specs.declared.Refusal.{Refusal}
+use Rattle.std.proofs.Common.{Ok, Err}
 use Rattle.image.proofs.Found.{found, refused_as}
 use Rattle.stack_check.specs.Answer.{ChunkHeld, ImageHeld, Lent, Decided, checked_of}
-use Rattle.stack_check.specs.declared.Reason as fault
-use Rattle.stack_check.specs.declared.CheckAnswer as answer
-use Rattle.stack_check.specs.declared.CheckAnswer.TheVariants as stack
+use Rattle.stack_check.specs.Answer as answer
+use Rattle.stack_check.specs.declared.ImageFault.{ImageFault}
+use Rattle.std.proofs.Common.{Ok, Err}
 use Rattle.rl_check.specs.Work.{CheckWork, check_short}
 use Rattle.rl_check.specs.Check.{answer_of, Checks, Ready, Judges}
 use Rattle.rl_check.specs.declared.CheckAnswer.{CheckAnswer}
@@ -56,13 +56,13 @@ module _ {bytes kinds table : List ℕ} {chunks : ℕ} where
       (R.found, R.held, record { heights = λ c l. let s = (R.kept.chunks_kept c l).short_code in omega arith; depths = omega arith; todo = omega arith })
 
   -- what it answers
-  pub passes_judged : (r : answer.CheckAnswer) → r ≡ stack.Pass → Decided bytes kinds table chunks r → Judges bytes kinds table chunks Pass
+  pub passes_judged : (r : answer.CheckAnswer) {u : Unit {0}} → r ≡ Ok u → Decided bytes kinds table chunks r → Judges bytes kinds table chunks Pass
   passes_judged r e D im h = rw e at ((D im h (checked_of r)).0 refl)
 
   pub fault_judged :
-      (r : answer.CheckAnswer) (f : fault.Reason) (c p : ℕ) → r ≡ stack.Fault f c p → Decided bytes kinds table chunks r
-      → Judges bytes kinds table chunks (Fault f c p)
-  fault_judged r f c p e D im h = rw e at ((D im h (checked_of r)).0 refl)
+      (r : answer.CheckAnswer) (f : ImageFault) → r ≡ Err f → Decided bytes kinds table chunks r
+      → Judges bytes kinds table chunks (Fault f.reason f.chunk f.at)
+  fault_judged r f e D im h = rw e at ((D im h (checked_of r)).0 refl)
 
 -- a slice is short
 module _ (w : CheckWork) where
@@ -110,19 +110,19 @@ module _ (bytes : List ℕ) (w : CheckWork) where
         not_nine : number_of e ≡ 9 → number_of e ≤ 7 → ⊥
         not_nine a b = omega arith
 
-    pub refused_checks : (m : Slices) (r : LoadAnswer) (e : Reason) (k : ℕ) → r ≡ load.Refused e k → Loads bytes w.loading r m → Checks bytes w (Refused e k)
-    refused_checks m r e k q l = go (short w.loading) refl
+    pub refused_checks : (m : Slices) (r : LoadAnswer) (x : Refusal) → r ≡ Err x → Loads bytes w.loading r m → Checks bytes w (Refused x.reason x.line)
+    refused_checks m r x q l = go (short w.loading) refl
       where
-        long : short w.loading ≡ false → (short w.loading ≡ true) ⊎ (load_image bytes ≡ refused (number_of e) k) → Checks bytes w (Refused e k)
+        long : short w.loading ≡ false → (short w.loading ≡ true) ⊎ (load_image bytes ≡ refused (number_of x.reason) x.line) → Checks bytes w (Refused x.reason x.line)
         long s (inl t) = true_not_false (sym t ∙ s)
-        long s (inr t) = refused_long e k s t
+        long s (inr t) = refused_long x.reason x.line s t
 
-        go : (t : Bool) → short w.loading ≡ t → Checks bytes w (Refused e k)
-        go true s = refused_short e k s (rw q at l.answer)
-        go false s = long s (refused_as bytes w.loading m r e k q l)
+        go : (t : Bool) → short w.loading ≡ t → Checks bytes w (Refused x.reason x.line)
+        go true s = refused_short x.reason x.line s (rw q at l.answer)
+        go false s = long s (refused_as bytes w.loading m r x q l)
 
     -- load did not refuse
-    module _ (m : Slices) (r : LoadAnswer) (n : Counts) (q : r ≡ load.Loaded n) (l : Loads bytes w.loading r m) where
+    module _ (m : Slices) (r : LoadAnswer) (n : Counts) (q : r ≡ Ok n) (l : Loads bytes w.loading r m) where
       there : Found bytes w.loading m n
       there = found bytes w.loading m r n q l
 

@@ -8,8 +8,8 @@ ghost use Rattle.image.specs.Answer.{slices};
 ghost use Rattle.rl_check.specs.Work.{check_work, CheckZero};
 ghost use Rattle.rl_check.specs.Check.{Checks, Ready, Judges};
 
-use clearing::clear_usize;
-use image::{LoadAnswer, load};
+use clearing::clear;
+use image::load;
 use load_answers::clear_load;
 pub use numbers_of::{chunk_of, fault_number, line_of, number_of, offset_of};
 use stack_check::check_image;
@@ -45,8 +45,8 @@ fn check_loaded(
         &mut depths[..least::DEPTHS],
         &mut todo[..least::TODO],
     ) {
-        stack_check::CheckAnswer::Pass => CheckAnswer::Pass,
-        stack_check::CheckAnswer::Fault(why, chunk, at) => CheckAnswer::Fault(why, chunk, at),
+        Ok(()) => CheckAnswer::Pass,
+        Err(fault) => CheckAnswer::Fault(fault.reason, fault.chunk, fault.at),
     }
 }
 
@@ -75,8 +75,8 @@ fn judge(
         return small;
     }
     match load(image, bytes, ends, kinds, payloads, table) {
-        LoadAnswer::Loaded(n) => check_loaded(bytes, kinds, table, n.chunks, heights, depths, todo),
-        LoadAnswer::Refused(reason, line) => CheckAnswer::Refused(reason, line),
+        Ok(n) => check_loaded(bytes, kinds, table, n.chunks, heights, depths, todo),
+        Err(refusal) => CheckAnswer::Refused(refusal.reason, refusal.line),
     }
 }
 
@@ -101,8 +101,8 @@ pub fn check(
         image, bytes, ends, kinds, payloads, table, heights, depths, todo,
     );
     clear_load(bytes, ends, kinds, payloads, table);
-    clear_usize(heights);
-    clear_usize(depths);
-    clear_usize(todo);
+    clear(heights);
+    clear(depths);
+    clear(todo);
     answer
 }

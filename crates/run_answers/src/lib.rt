@@ -9,7 +9,7 @@ ghost use Rattle.std.specs.Prelude.{◌≡◌};
 ghost use Rattle.vm_logic.specs.Endings.{EndHeld};
 ghost use Rattle.run_answers.specs.Run.{own, any_short, OwnZero, Ended};
 
-use clearing::{clear_u16, clear_u64, clear_usize};
+use clearing::clear;
 pub use run_numbers::{
     run_chunk, run_count, run_length, run_line, run_number, run_offset, stop_number,
 };
@@ -84,14 +84,14 @@ pub fn clear_run(
 )
     ensures { OwnZero (own texts.new classes.new stack.new locals.new starts.new globals.new cells.new memo.new) }
 {
-    clear_u64(texts);
-    clear_u64(classes);
-    clear_u64(stack);
-    clear_u64(locals);
-    clear_usize(starts);
-    clear_u64(globals);
-    clear_u64(cells);
-    clear_u16(memo);
+    clear(texts);
+    clear(classes);
+    clear(stack);
+    clear(locals);
+    clear(starts);
+    clear(globals);
+    clear(cells);
+    clear(memo);
 }
 
 // What a run that ended answers: its value coded into the result slice, if it fits there, or its stop.

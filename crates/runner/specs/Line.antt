@@ -1,9 +1,9 @@
--- Inner step of the runner: the bytes of a value lie in the result slice.
-use Rattle.std.specs.Prelude.{ℕ, ◌≤◌}
+-- The runner's line, of what `run` answers.
+use Rattle.std.specs.Prelude.{List, ℕ}
+use Rattle.definition.specs.Runner.{answer_line}
 use Rattle.run_answers.specs.declared.RunAnswer.{RunAnswer}
-use Rattle.run_answers.specs.declared.RunAnswer.TheVariants.{Refused, Value, Stop}
+use Rattle.run_answers.specs.Run.{answer_of}
 
-abbrev pub Fits : RunAnswer → ℕ → Type 0
-Fits (Refused r k) room = Unit {0}
-Fits (Value n size) room = size ≤ room
-Fits (Stop reason n c p) room = Unit {0}
+-- the line of an answer, the result slice holding this
+abbrev pub line_of : RunAnswer → List ℕ → List ℕ
+line_of a result = answer_line (answer_of a result)

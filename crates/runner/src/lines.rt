@@ -1,52 +1,45 @@
 // The line of an answer of `run`.
-ghost use Rattle.std.specs.Prelude.{◌≡◌, [], ◌∷◌, ◌+◌, ◌*◌, ◌≤◌, length};
-ghost use Rattle.definition.specs.Runner.{ascii, decimal, padded, hex, words, answer_line};
-ghost use Rattle.line_output.specs.Puts.{Puts};
-ghost use Rattle.run_answers.specs.Run.{answer_of};
-ghost use Rattle.runner.specs.Line.{Fits};
+ghost use Rattle.std.specs.Prelude.{Some, ◌≤◌, length};
+ghost use Rattle.run_answers.specs.Numbers.{run_length};
+ghost use Rattle.runner.specs.Line.{line_of};
 
-use line_output::{put, put_decimal, put_hex, put_padded, put_refused};
-use rl_vm::RunAnswer;
+use line_output::{Hex, Place, RefusedLine};
+use rl_vm::{RunAnswer, refusal_number, stop_number};
+use std::fmt;
+use std::fmt::{Display, Formatter};
 
-fn value(out: &mut [u8], count: usize, res: &[u8]) -> usize
-    requires { 32 + 2 * length res.now ≤ length out.old }
-    ensures { Puts out.old 0 (words (ascii "value" ∷ decimal count ∷ hex res.now ∷ [])) out.new result }
-{
-    let a = put(out, 0, b"value ");
-    let b = put_decimal(out, a, count);
-    let c = put(out, b, b" ");
-    let d = put_hex(out, c, res);
-    put(out, d, b"\n")
+// How many bytes the result may have: document 01 says it of the runner.
+pub const RESULT: usize = 4096;
+
+// An answer and its result slice, as the line that says it, with its line feed.
+#[derive(Drop)]
+pub struct Line {
+    pub answer: RunAnswer,
+    pub result: [u8; RESULT],
+    ghost fits: { run_length answer ≤ length result },
 }
 
-fn stopped(out: &mut [u8], number: usize, count: usize, chunk: usize, offset: usize) -> usize
-    requires { 96 ≤ length out.old }
-    ensures { Puts out.old 0 (words (ascii "stop" ∷ decimal number ∷ decimal count ∷ padded chunk ∷ padded offset ∷ [])) out.new result }
-{
-    let a = put(out, 0, b"stop ");
-    let b = put_decimal(out, a, number);
-    let c = put(out, b, b" ");
-    let d = put_decimal(out, c, count);
-    let e = put(out, d, b" ");
-    let f = put_padded(out, e, chunk);
-    let g = put(out, f, b" ");
-    let h = put_padded(out, g, offset);
-    put(out, h, b"\n")
-}
+impl Display for Line {
+    ghost output = { λ line. Some (line_of line.answer line.result) };
 
-// The line, at the start of `out`, and where it ends.
-pub fn spell(a: RunAnswer, res: &[u8], out: &mut [u8]) -> usize
-    requires { (32 + 2 * length res.now ≤ length out.old) × (96 ≤ length out.old) × Fits a (length res.now) }
-    ensures { Puts out.old 0 (answer_line (answer_of a res.now)) out.new result }
-{
-    match a {
-        RunAnswer::Refused(reason, line) => put_refused(out, rl_vm::refusal_number(reason), line),
-        RunAnswer::Value { count, length } => value(out, count, &res[..length]),
-        RunAnswer::Stop {
-            reason,
-            count,
-            chunk,
-            offset,
-        } => stopped(out, rl_vm::stop_number(reason), count, chunk, offset),
+    fn fmt<W: fmt::Write>(&self, f: &mut Formatter<W>) -> fmt::Result {
+        match self.answer {
+            RunAnswer::Refused(reason, line) => {
+                let number = refusal_number(reason);
+                write!(f, "{}", RefusedLine { number, line })
+            }
+            RunAnswer::Value { count, length } => {
+                writeln!(f, "value {count} {}", Hex(&self.result[..length]))
+            }
+            RunAnswer::Stop {
+                reason,
+                count,
+                chunk,
+                offset,
+            } => {
+                let number = stop_number(reason);
+                writeln!(f, "stop {number} {count} {}", Place { chunk, offset })
+            }
+        }
     }
 }

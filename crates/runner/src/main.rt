@@ -4,26 +4,22 @@
 
 mod lines; // the line of an answer
 
-ghost use Rattle.std.specs.Prelude.{List, ℕ, ◌≤◌, ◌<◌, length};
+ghost use Rattle.std.specs.Prelude.{◌≡◌, List, ℕ, ◌≤◌, ◌<◌, length};
 ghost use Rattle.definition.specs.Runner.{runner_line};
 ghost use Rattle.image_input.specs.Read.{ReadOf};
-ghost use Rattle.line_output.specs.Puts.{Puts};
+ghost use Rattle.runner.specs.Line.{line_of};
 
-use image_input::{Input, input_of, read_input};
+use image_input::read_input;
 use line_output::write_line;
-use lines::spell;
+use lines::{Line, RESULT};
 use rl_vm::{IMAGE_MOST, least, run};
 
 // How many instructions a run may begin: document 01 says it of the runner.
 const BUDGET: usize = 1_000_000;
 
-// How many bytes the result may have: the same.
-const RESULT: usize = 4096;
-
-// The line for an image, at the start of `out`, and where it ends.
-fn answer_line(image: &[u8], out: &mut [u8]) -> usize
-    requires { 8224 ≤ length out.old }
-    ensures { Puts out.old 0 (runner_line image.now) out.new result }
+// The line for an image.
+fn answer_line(image: &[u8]) -> Line
+    ensures { line_of result.answer result.result ≡ runner_line image.now }
 {
     let mut result = [0u8; RESULT];
     let mut bytes = [0u8; least::BYTES];
@@ -39,7 +35,7 @@ fn answer_line(image: &[u8], out: &mut [u8]) -> usize
     let mut globals = [0u64; least::GLOBALS];
     let mut cells = [0u64; least::CELLS];
     let mut memo = [0u16; least::MEMO];
-    let a = run(
+    let answer = run(
         image,
         BUDGET,
         &mut result,
@@ -57,29 +53,26 @@ fn answer_line(image: &[u8], out: &mut [u8]) -> usize
         &mut cells,
         &mut memo,
     );
-    spell(a, &result, out)
+    Line { answer, result }
 }
 
 // The line for the input of which the first n bytes of `read` were read. It is the same for every such input, also for one that is longer than `read`.
-fn input_line(read: &[u8], n: usize, out: &mut [u8]) -> usize
-    requires { (65536 < length read.now) × (n ≤ length read.now) × (8224 ≤ length out.old) }
-    ensures line { (input : List ℕ) → ReadOf read.now n input → Puts out.old 0 (runner_line input) out.new result }
-    ensures upper_bound { result ≤ length out.new }
+fn input_line(read: &[u8], n: usize) -> Line
+    requires { (65536 < length read.now) × (n ≤ length read.now) }
+    ensures { (input : List ℕ) → ReadOf read.now n input → line_of result.answer result.result ≡ runner_line input }
 {
-    answer_line(&read[..n], out)
+    answer_line(&read[..n])
 }
 
 fn main(rt: HostRuntime) {
     let mut read = [0u8; IMAGE_MOST + 1];
-    let mut line = [0u8; 8224];
-    let mut input = rt.stdin();
-    let mut output = rt.stdout();
     let mut errors = rt.stderr();
-    match input_of(read_input(&mut input, &mut errors, b"runner", &mut read)) {
-        Input::Bytes(n) => {
-            let k = input_line(&read, n, &mut line);
-            write_line(&mut output, &mut errors, b"runner", &line, k);
-        }
-        Input::Failed => {}
+    if let Some(n) = read_input(&mut rt.stdin(), &mut errors, "runner", &mut read).bytes() {
+        write_line(
+            &mut rt.stdout(),
+            &mut errors,
+            "runner",
+            input_line(&read, n),
+        );
     }
 }

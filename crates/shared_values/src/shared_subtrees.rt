@@ -8,7 +8,7 @@ ghost use Rattle.values.specs.Building.{Builds};
 ghost use Rattle.shared_values.specs.Nested.{NestedAsks, GrownGives, NestedGives, ComparedGives, CodedGives};
 
 use super::{Compared, Grown, Nested};
-use clearing::{clear_u16, clear_u64};
+use clearing::clear;
 use numbers::Number;
 use value_coding::Coded;
 use values::{Built, SequenceKind, VmValue};
@@ -84,7 +84,7 @@ fn compare_in(
     if memo.len() < 4096 {
         return Compared::NotBuilt;
     }
-    clear_u16(memo);
+    clear(memo);
     match nest(cells, 0, left, left_last, depth) {
         Nested::At(a, n) => match nest(cells, n, right, right_last, depth) {
             Nested::At(b, m) => {
@@ -113,8 +113,8 @@ pub fn compare_nested(
     ensures memo { AllZero memo.new }
 {
     let answer = compare_in(left, left_last, right, right_last, depth, cells, memo);
-    clear_u64(cells);
-    clear_u16(memo);
+    clear(cells);
+    clear(memo);
     answer
 }
 
@@ -143,6 +143,6 @@ pub fn code_nested(
     ensures cells { AllZero cells.new }
 {
     let answer = code_in(leaf, last, depth, cells, out);
-    clear_u64(cells);
+    clear(cells);
     answer
 }

@@ -13,9 +13,8 @@ use Rattle.definition.specs.StackCheck as rules
 use Rattle.definition.specs.CheckAnswer as answer
 use Rattle.chunk.specs.Fault.{kinds_of}
 use Rattle.chunk.proofs.Judging.{function_is, str_is}
-use Rattle.stack_check.specs.Answer.{ChunkIs}
-use Rattle.stack_check.specs.declared.ChunkAnswer.{ChunkAnswer}
-use Rattle.stack_check.specs.declared.ChunkAnswer.TheVariants.{Pass, Fault}
+use Rattle.stack_check.specs.Answer.{ChunkAnswer, ChunkIs}
+use Rattle.std.proofs.Common.{Ok, Err}
 
 pub record Alike (c e : Chunk) : Type 0 where
   pub code : c.code ≡ e.code
@@ -91,5 +90,5 @@ wrong_alike A (answer.Wrong.faulty n p r b f z l) =
 wrong_alike A (answer.Wrong.no_heights f g) = answer.Wrong.no_heights (clean_alike A f) (λ h d G. g h d (heights_alike (alike_back A) G))
 
 pub answer_alike : {c e : Chunk} → Alike c e → (r : ChunkAnswer) → ChunkIs c r → ChunkIs e r
-answer_alike A Pass P = passes_alike A P
-answer_alike A (Fault r p) W = wrong_alike A W
+answer_alike A (Ok u) P = passes_alike A P
+answer_alike A (Err f) W = wrong_alike A W

@@ -1,5 +1,6 @@
 -- A node is the definition's instruction. Assumes nothing.
 use mathlib.Core.Path.{◌≡◌, refl, sym, ◌∙◌, ap}
+use mathlib.Core.Bool.{Bool}
 use mathlib.Core.List.{List, [], ◌∷◌, map}
 use mathlib.Core.Logic.{⊎_elim}
 use mathlib.Core.Option.{Option, none, some}
@@ -131,7 +132,7 @@ node_is i f t x y z ef et ex ey ez p d e =
     all n₁ z₁ (ap (λ (u : FlowEffect). u.exact) t₁) (ap (λ (u : FlowEffect). u.drops) t₁) (ap (λ (u : FlowEffect). u.opens) t₁) (ap (λ (u : FlowEffect). u.ends) t₁) x₁ y₁
   where
     all :
-        {n e d o s x y n' e' d' o' s' x' y' : ℕ} {z z' : ℤ} → n ≡ n' → z ≡ z' → e ≡ e' → d ≡ d' → o ≡ o' → s ≡ s' → x ≡ x' → y ≡ y'
+        {n d o x y n' d' o' x' y' : ℕ} {e s e' s' : Bool} {z z' : ℤ} → n ≡ n' → z ≡ z' → e ≡ e' → d ≡ d' → o ≡ o' → s ≡ s' → x ≡ x' → y ≡ y'
         → ◌≡◌ {A = Node} (record { need = n; change = z; exact = e; drops = d; opens = o; ends = s; first = x; second = y }) (record {
           need = n';
           change = z';
@@ -173,11 +174,3 @@ kinds_back (k ∷ ks) = ap (λ (l : List ℕ). k ∷ l) (kinds_back ks)
 
 pub before_start : {n a : ℕ} → n < a → 0 ≡ n - a
 before_start h = omega arith
-
-pub effect_is : (r t : FlowEffect) → r.exact ≡ t.exact → r.drops ≡ t.drops → r.opens ≡ t.opens → r.ends ≡ t.ends → r ≡ t
-effect_is r t a b c d = all a b c d
-  where
-    all :
-        {e d o s e' d' o' s' : ℕ} → e ≡ e' → d ≡ d' → o ≡ o' → s ≡ s'
-        → ◌≡◌ {A = FlowEffect} (record { exact = e; drops = d; opens = o; ends = s }) (record { exact = e'; drops = d'; opens = o'; ends = s' })
-    all a b c d = rw (a, b, c, d)

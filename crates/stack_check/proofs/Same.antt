@@ -1,5 +1,6 @@
 -- The rules over nodes are the definition's. Assumes nothing.
 use mathlib.Core.Path.{◌≡◌, refl, sym, ◌∙◌, ap}
+use mathlib.Core.Bool.{true}
 use mathlib.Core.Logic.{inl, inr, ⊎_elim}
 use mathlib.Core.Option.{Option, none, some}
 use Prim.Native.Nat.{ℕ, ◌+◌, ◌-◌, ◌≤◌, ◌<◌}
@@ -12,6 +13,7 @@ use Rattle.definition.specs.Decode.{Instr, decode, fault}
 use Rattle.definition.specs.StackCheck as rules
 use Rattle.definition.specs.CheckAnswer as answer
 use Rattle.definition.proofs.ChangeOfHeight.{height_is}
+use Rattle.definition.proofs.Judged.{true_not_false}
 use Rattle.chunk.specs.Table.{flow_of}
 use Rattle.stack_check.specs.Node.{flow_effect, node_by, node_of, node_at}
 use Rattle.stack_check.specs.Flat.{Goes, Reach, Comes, Fit, Obeys, Assigned, NoFault, Lowest, height_after, depth_after}
@@ -24,7 +26,7 @@ goes_by table.closes n l z a p t g = ⊎_elim (λ e. e) (λ e. e) g.1
 goes_by table.forward n l z a p t g = ⊎_elim (λ e. e) (λ e. e) g.1
 goes_by table.backward n l z a p t g = ⊎_elim (λ e. e) (λ e. e) g.1
 goes_by table.forks n l z a p t g = ⊎_elim (λ e. inr e) (λ e. inl e) g.1
-goes_by table.ends n l z a p t g = let z : ◌≡◌ {A = ℕ} 1 0 = g.0 in omega arith
+goes_by table.ends n l z a p t g = true_not_false g.0
 goes_by table.may_end n l z a p t g = ⊎_elim (λ e. e) (λ e. e) g.1
 
 after_by : (f : table.Flow) (n : ℕ) (l : ℤ) (z a p t : ℕ) → rules.AfterBy f z a p t → Goes (node_by (flow_of f) n l (p + z) a) t
@@ -44,45 +46,45 @@ after_goes : (p t : ℕ) (i : Instr) → rules.After i.op i.a p t → Goes (node
 after_goes p t i g = after_by (table.row i.op).flow (table.need i.op i.a) (table.change i.op i.a) (table.size i.op) i.a p t g
 
 -- an instruction that may leave its frame needs one operand
-needs_one : (o : table.OpCode) (a : ℕ) → (flow_effect (flow_of (table.row o).flow)).exact ≡ 1 → table.need o a ≡ 1
-needs_one table.Const a e = omega arith
-needs_one table.Add a e = omega arith
-needs_one table.Sub a e = omega arith
-needs_one table.Mul a e = omega arith
-needs_one table.Div a e = omega arith
-needs_one table.Negate a e = omega arith
-needs_one table.Not a e = omega arith
-needs_one table.Eq a e = omega arith
-needs_one table.NotEq a e = omega arith
-needs_one table.Less a e = omega arith
-needs_one table.LessEq a e = omega arith
-needs_one table.Greater a e = omega arith
-needs_one table.GreaterEq a e = omega arith
-needs_one table.GetLocal a e = omega arith
-needs_one table.SetLocal a e = omega arith
-needs_one table.GetGlobal a e = omega arith
-needs_one table.SetGlobal a e = omega arith
-needs_one table.DefineLocal a e = omega arith
-needs_one table.Pop a e = omega arith
+needs_one : (o : table.OpCode) (a : ℕ) → (flow_effect (flow_of (table.row o).flow)).exact ≡ true → table.need o a ≡ 1
+needs_one table.Const a e = true_not_false (sym e)
+needs_one table.Add a e = true_not_false (sym e)
+needs_one table.Sub a e = true_not_false (sym e)
+needs_one table.Mul a e = true_not_false (sym e)
+needs_one table.Div a e = true_not_false (sym e)
+needs_one table.Negate a e = true_not_false (sym e)
+needs_one table.Not a e = true_not_false (sym e)
+needs_one table.Eq a e = true_not_false (sym e)
+needs_one table.NotEq a e = true_not_false (sym e)
+needs_one table.Less a e = true_not_false (sym e)
+needs_one table.LessEq a e = true_not_false (sym e)
+needs_one table.Greater a e = true_not_false (sym e)
+needs_one table.GreaterEq a e = true_not_false (sym e)
+needs_one table.GetLocal a e = true_not_false (sym e)
+needs_one table.SetLocal a e = true_not_false (sym e)
+needs_one table.GetGlobal a e = true_not_false (sym e)
+needs_one table.SetGlobal a e = true_not_false (sym e)
+needs_one table.DefineLocal a e = true_not_false (sym e)
+needs_one table.Pop a e = true_not_false (sym e)
 needs_one table.Return a e = omega arith
-needs_one table.PushScope a e = omega arith
-needs_one table.PopScope a e = omega arith
-needs_one table.Jump a e = omega arith
-needs_one table.JumpIfFalse a e = omega arith
-needs_one table.Loop a e = omega arith
-needs_one table.Call a e = omega arith
-needs_one table.Ok a e = omega arith
-needs_one table.Err a e = omega arith
+needs_one table.PushScope a e = true_not_false (sym e)
+needs_one table.PopScope a e = true_not_false (sym e)
+needs_one table.Jump a e = true_not_false (sym e)
+needs_one table.JumpIfFalse a e = true_not_false (sym e)
+needs_one table.Loop a e = true_not_false (sym e)
+needs_one table.Call a e = true_not_false (sym e)
+needs_one table.Ok a e = true_not_false (sym e)
+needs_one table.Err a e = true_not_false (sym e)
 needs_one table.Propagate a e = omega arith
-needs_one table.Error a e = omega arith
-needs_one table.BuildArr a e = omega arith
-needs_one table.BuildTuple a e = omega arith
-needs_one table.Index a e = omega arith
-needs_one table.ArrLen a e = omega arith
-needs_one table.ArrSet a e = omega arith
-needs_one table.BuildClosure a e = omega arith
-needs_one table.Cast a e = omega arith
-needs_one table.IsKind a e = omega arith
+needs_one table.Error a e = true_not_false (sym e)
+needs_one table.BuildArr a e = true_not_false (sym e)
+needs_one table.BuildTuple a e = true_not_false (sym e)
+needs_one table.Index a e = true_not_false (sym e)
+needs_one table.ArrLen a e = true_not_false (sym e)
+needs_one table.ArrSet a e = true_not_false (sym e)
+needs_one table.BuildClosure a e = true_not_false (sym e)
+needs_one table.Cast a e = true_not_false (sym e)
+needs_one table.IsKind a e = true_not_false (sym e)
 
 depth_is : (o : table.OpCode) (d : ℕ) → d - (flow_effect (flow_of (table.row o).flow)).drops + (flow_effect (flow_of (table.row o).flow)).opens ≡ table.depth_after o d
 depth_is table.Const d = omega arith
@@ -125,26 +127,23 @@ depth_is table.Cast d = omega arith
 depth_is table.IsKind d = omega arith
 
 -- what is asked of height and depth
-exact_by : (f : table.Flow) (n : ℕ) (l : ℤ) (x a h d : ℕ) → ((flow_effect (flow_of f)).exact ≡ 1 → n ≡ 1) → Fit (node_by (flow_of f) n l x a) h d → rules.ExactBy f h d
+exact_by : (f : table.Flow) (n : ℕ) (l : ℤ) (x a h d : ℕ) → ((flow_effect (flow_of f)).exact ≡ true → n ≡ 1) → Fit (node_by (flow_of f) n l x a) h d → rules.ExactBy f h d
 exact_by table.straight n l x a h d o F = tt
 exact_by table.opens n l x a h d o F = tt
 exact_by table.closes n l x a h d o F = F.scoped
 exact_by table.forward n l x a h d o F = tt
 exact_by table.backward n l x a h d o F = tt
 exact_by table.forks n l x a h d o F = tt
-exact_by table.ends n l x a h d o F = F.exactly (λ e. omega arith) ∙ o refl
-exact_by table.may_end n l x a h d o F = F.exactly (λ e. omega arith) ∙ o refl
+exact_by table.ends n l x a h d o F = F.exactly refl ∙ o refl
+exact_by table.may_end n l x a h d o F = F.exactly refl ∙ o refl
 
-not_zero : {A : Type 0} → (◌≡◌ {A = ℕ} 0 0 → ⊥) → A
-not_zero f = absurd (f refl)
-
-fit_by : (f : table.Flow) (n : ℕ) (l : ℤ) (x a h d : ℕ) → ((flow_effect (flow_of f)).exact ≡ 1 → n ≡ 1) → n ≤ h → rules.ExactBy f h d → Fit (node_by (flow_of f) n l x a) h d
-fit_by table.straight n l x a h d o e F = record { enough = e; exactly = λ z. not_zero z; scoped = omega arith }
-fit_by table.opens n l x a h d o e F = record { enough = e; exactly = λ z. not_zero z; scoped = omega arith }
-fit_by table.closes n l x a h d o e F = record { enough = e; exactly = λ z. not_zero z; scoped = F }
-fit_by table.forward n l x a h d o e F = record { enough = e; exactly = λ z. not_zero z; scoped = omega arith }
-fit_by table.backward n l x a h d o e F = record { enough = e; exactly = λ z. not_zero z; scoped = omega arith }
-fit_by table.forks n l x a h d o e F = record { enough = e; exactly = λ z. not_zero z; scoped = omega arith }
+fit_by : (f : table.Flow) (n : ℕ) (l : ℤ) (x a h d : ℕ) → ((flow_effect (flow_of f)).exact ≡ true → n ≡ 1) → n ≤ h → rules.ExactBy f h d → Fit (node_by (flow_of f) n l x a) h d
+fit_by table.straight n l x a h d o e F = record { enough = e; exactly = λ z. true_not_false (sym z); scoped = omega arith }
+fit_by table.opens n l x a h d o e F = record { enough = e; exactly = λ z. true_not_false (sym z); scoped = omega arith }
+fit_by table.closes n l x a h d o e F = record { enough = e; exactly = λ z. true_not_false (sym z); scoped = F }
+fit_by table.forward n l x a h d o e F = record { enough = e; exactly = λ z. true_not_false (sym z); scoped = omega arith }
+fit_by table.backward n l x a h d o e F = record { enough = e; exactly = λ z. true_not_false (sym z); scoped = omega arith }
+fit_by table.forks n l x a h d o e F = record { enough = e; exactly = λ z. true_not_false (sym z); scoped = omega arith }
 fit_by table.ends n l x a h d o e F = record { enough = e; exactly = λ z. F ∙ sym (o refl); scoped = omega arith }
 fit_by table.may_end n l x a h d o e F = record { enough = e; exactly = λ z. F ∙ sym (o refl); scoped = omega arith }
 

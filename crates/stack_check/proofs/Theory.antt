@@ -1,5 +1,6 @@
 -- The search of the stack check: what each visit keeps, and what the search's end says. Assumes nothing.
 use mathlib.Core.Path.{◌≡◌, refl, sym, ◌∙◌, ap, subst}
+use mathlib.Core.Bool.{Bool, true, false}
 use mathlib.Core.List.{List, [], ◌∷◌}
 use mathlib.Core.Logic.{◌⊎◌, inl, inr, ⊎_elim}
 use Prim.Native.Nat.{ℕ, zero, suc, ◌+◌, ◌-◌, ◌≤◌, ◌<◌, ◌^◌}
@@ -11,6 +12,7 @@ use lib.Seq.{get_or-set_same, get_or-set_other}
 use Rattle.clearing.proofs.Orders.{same_or, below_or, below_next}
 use Rattle.definition.specs.Image.{Chunk}
 use Rattle.definition.specs.Decode.{fault}
+use Rattle.definition.proofs.Judged.{true_not_false}
 use Rattle.stack_check.specs.Node.{node_at}
 use Rattle.stack_check.proofs.Nodes.{one_more, changeable, opens_small}
 use Rattle.stack_check.specs.Flat.{Goes, Reach, Assigned, Fit, Obeys, Lowest, NoFault, height_after, depth_after, Changeable}
@@ -23,8 +25,8 @@ use Rattle.stack_check.specs.declared.Node.{Node}
 pub positive : (n : ℕ) → (n ≡ 0 → ⊥) → 0 < n
 positive n h = omega arith
 
-one_not_zero : ◌≡◌ {A = ℕ} 1 0 → ⊥
-one_not_zero e = omega arith
+set_not_clear : ◌≡◌ {A = Bool} true false → ⊥
+set_not_clear e = true_not_false e
 
 zeros_set : (l : List ℕ) (i v : ℕ) → i < length l → get_or l i 0 ≡ 0 → zeros (set l i (v + 1)) + 1 ≡ zeros l
 unfolding zeros zero_at
@@ -53,7 +55,7 @@ stored l i v j h =
 
 -- the search with `bad` set
 abbrev pub broken : Search → Search
-broken s = record { head = s.head; tail = s.tail; low = s.low; bad = 1 }
+broken s = record { head = s.head; tail = s.tail; low = s.low; bad = true }
 
 abbrev pub pushed : Search → Search
 pushed s = record { head = s.head; tail = s.tail + 1; low = s.low; bad = s.bad }
@@ -104,7 +106,7 @@ kept_broken hs ds ts s =
       depths = λ o l. refl;
       todo = λ j l. refl;
       grows = omega arith;
-      worse = λ b. absurd (one_not_zero b);
+      worse = λ b. absurd (set_not_clear b);
       head = refl;
       low = refl;
     }
@@ -142,9 +144,9 @@ module _ {c : Chunk} {hs ds ts : List ℕ} {s : Search} (P : Progress c hs ds ts
         arrived =
             record {
               seen = seen;
-              height = λ l b. absurd (one_not_zero b);
-              depth = λ l b. absurd (one_not_zero b);
-              empty = λ l b. absurd (one_not_zero b);
+              height = λ l b. absurd (set_not_clear b);
+              depth = λ l b. absurd (set_not_clear b);
+              empty = λ l b. absurd (set_not_clear b);
             };
       }
 
@@ -396,13 +398,13 @@ module _
             handled =
                 rw (← is)
                 (record {
-                  fit = λ b. absurd (one_not_zero (S.kept.worse b));
+                  fit = λ b. absurd (set_not_clear (S.kept.worse b));
                   goes = λ t g.
                       record {
                         seen = (S.arrived t g).seen;
-                        height = λ l b. absurd (one_not_zero (S.kept.worse b));
-                        depth = λ l b. absurd (one_not_zero (S.kept.worse b));
-                        empty = λ l b. absurd (one_not_zero (S.kept.worse b));
+                        height = λ l b. absurd (set_not_clear (S.kept.worse b));
+                        depth = λ l b. absurd (set_not_clear (S.kept.worse b));
+                        empty = λ l b. absurd (set_not_clear (S.kept.worse b));
                       };
                 });
           }
@@ -503,10 +505,10 @@ module _ {c : Chunk} {hs ds ts : List ℕ} {s : Search} (P : Progress c hs ds ts
   pub no_fault : length c.code ≤ s.low → NoFault c
   no_fault m o r l = no_fault_below o r l (omega arith)
 
-  pub end_wrong : (s.bad ≡ 0 → ⊥) → (H D : ℕ → ℕ) → Assigned c H D → ⊥
-  end_wrong n H D A = n (P.forced H D A).good
+  pub end_wrong : s.bad ≡ true → (H D : ℕ → ℕ) → Assigned c H D → ⊥
+  end_wrong n H D A = set_not_clear (sym n ∙ (P.forced H D A).good)
 
-  pub end_right : s.bad ≡ 0 → Assigned c (λ o. get_or hs o 0 - 1) (λ o. get_or ds o 0)
+  pub end_right : s.bad ≡ false → Assigned c (λ o. get_or hs o 0 - 1) (λ o. get_or ds o 0)
   end_right b =
       record {
         height = omega (arith, P.top_height);
@@ -527,7 +529,7 @@ module _ {c : Chunk} {hs ds ts : List ℕ} {s : Search} (P : Progress c hs ds ts
 
 -- the search's start: nothing but offset 0 is noted, at height 0 and depth 0
 abbrev pub begun : ℕ → Search
-begun n = record { head = 0; tail = 1; low = n; bad = 0 }
+begun n = record { head = 0; tail = 1; low = n; bad = false }
 
 module _
     (c : Chunk) (hs zs ds ts : List ℕ) (code : 0 < length c.code) (same : length zs ≡ length hs) (long : length c.code ≤ length hs)

@@ -11,11 +11,9 @@ use Rattle.definition.specs.StackCheck.{ChunkPasses, Passes}
 use Rattle.definition.specs.CheckAnswer.{Answers, Wrong}
 use Rattle.definition.proofs.OneAnswer.{settled}
 use Rattle.stack_check.specs.Node.{chunk_of}
-use Rattle.stack_check.specs.Answer.{reason_number, checked_of, ChunkIs, CheckRoomy, RowLent, RowDecided, Lent, Decided, PassBelow}
-use Rattle.stack_check.specs.declared.Reason.{Reason}
-use Rattle.stack_check.specs.declared.ChunkAnswer.{ChunkAnswer}
-use Rattle.stack_check.specs.declared.ChunkAnswer.TheVariants as one
-use Rattle.stack_check.specs.declared.CheckAnswer.TheVariants.{Pass, Fault}
+use Rattle.stack_check.specs.Answer.{reason_number, ChunkAnswer, checked_of, ChunkIs, CheckRoomy, RowLent, RowDecided, Lent, Decided, PassBelow}
+use Rattle.stack_check.specs.declared.ChunkFault.{ChunkFault}
+use Rattle.std.proofs.Common.{Ok, Err}
 use Rattle.stack_check.proofs.Nodes.{kinds_back}
 use Rattle.stack_check.proofs.Alike.{answer_alike}
 use Rattle.clearing.proofs.Orders.{below_next}
@@ -39,7 +37,7 @@ module _ {bytes kinds table : List ℕ} {chunks : ℕ} where
       let j = L.2.todo in
       (chunk_at im c, L.1.held c m, record { heights = omega arith; depths = omega arith; todo = omega arith })
 
-  pub pass_next : (c : ℕ) (r : ChunkAnswer) → c < chunks → r ≡ one.Pass → RowDecided bytes kinds table c r → PassBelow bytes kinds table chunks c →
+  pub pass_next : (c : ℕ) (r : ChunkAnswer) {u : Unit {0}} → c < chunks → r ≡ Ok u → RowDecided bytes kinds table c r → PassBelow bytes kinds table chunks c →
       PassBelow bytes kinds table chunks (c + 1)
   pass_next c r l e R P im H b m =
       ⊎_elim
@@ -51,17 +49,17 @@ module _ {bytes kinds table : List ℕ} {chunks : ℕ} where
       here x = rw e at x
 
   pub fault_decided :
-      (c : ℕ) (r : ChunkAnswer) (n : Reason) (p : ℕ) → c < chunks → r ≡ one.Fault n p → RowDecided bytes kinds table c r → PassBelow bytes kinds table chunks c
-      → Decided bytes kinds table chunks (Fault n c p)
-  fault_decided c r n p l e R P im H =
-      settled im (checked_of (Fault n c p)) (Answers.refuses (reason_number n) c p m (P im H) (here (R (chunk_at im c) (H.held c m))))
+      (c : ℕ) (r : ChunkAnswer) (f : ChunkFault) → c < chunks → r ≡ Err f → RowDecided bytes kinds table c r → PassBelow bytes kinds table chunks c
+      → Decided bytes kinds table chunks (Err (record { reason = f.reason; chunk = c; at = f.at }))
+  fault_decided c r f l e R P im H =
+      settled im (checked_of (Err (record { reason = f.reason; chunk = c; at = f.at }))) (Answers.refuses (reason_number f.reason) c f.at m (P im H) (here (R (chunk_at im c) (H.held c m))))
     where
       m : c < length im.chunks
       m = omega (arith, H.count)
 
-      here : ChunkIs (chunk_at im c) r → Wrong (chunk_at im c) (reason_number n) p
+      here : ChunkIs (chunk_at im c) r → Wrong (chunk_at im c) (reason_number f.reason) f.at
       here x = rw e at x
 
-  pub pass_decided : (c : ℕ) → chunks ≤ c → PassBelow bytes kinds table chunks c → Decided bytes kinds table chunks Pass
+  pub pass_decided : (c : ℕ) → chunks ≤ c → PassBelow bytes kinds table chunks c → Decided bytes kinds table chunks (Ok tt)
   unfolding Passes
-  pass_decided c l P im H = settled im (checked_of Pass) (Answers.passes (λ b m. P im H b (omega (arith, H.count))))
+  pass_decided c l P im H = settled im (checked_of (Ok tt)) (Answers.passes (λ b m. P im H b (omega (arith, H.count))))

@@ -1,15 +1,20 @@
 -- What the check answers, in the definition's terms.
-use Rattle.std.specs.Prelude.{◌≡◌, List, ℕ, ◌+◌, ◌*◌, ◌-◌, ◌≤◌, ◌<◌, length, get_or, take, drop}
+use Rattle.std.specs.Prelude.{◌≡◌, List, ℕ, ◌+◌, ◌*◌, ◌-◌, ◌≤◌, ◌<◌, length, get_or, take, drop, Result, Ok, Err}
 use Rattle.definition.specs.Image.{Chunk, Image, chunk_at}
 use Rattle.definition.specs.StackCheck.{ChunkPasses}
 use Rattle.definition.specs.CheckAnswer.{Checked, pass, fails, Wrong, Decides}
 use Rattle.chunk.specs.Fault.{kinds_of}
 use Rattle.stack_check.specs.declared.Reason.{Reason}
 use Rattle.stack_check.specs.declared.Reason.TheVariants.{Instruction, Loop, Constant, NoHeights}
-use Rattle.stack_check.specs.declared.ChunkAnswer.{ChunkAnswer}
-use Rattle.stack_check.specs.declared.ChunkAnswer.TheVariants as one
-use Rattle.stack_check.specs.declared.CheckAnswer.{CheckAnswer}
-use Rattle.stack_check.specs.declared.CheckAnswer.TheVariants.{Pass, Fault}
+use Rattle.stack_check.specs.declared.ChunkFault.{ChunkFault}
+use Rattle.stack_check.specs.declared.ImageFault.{ImageFault}
+
+-- the answer for one chunk, and for an image
+abbrev pub ChunkAnswer : Type 0
+ChunkAnswer = Result (Unit {0}) ChunkFault
+
+abbrev pub CheckAnswer : Type 0
+CheckAnswer = Result (Unit {0}) ImageFault
 
 -- document 01's numbers: "10 unknown instruction, operands cut, or Cast target over 9; 11 a Loop before offset 0; 12 a constant missing or not
 -- of the kind needed", "13 at offset 0: no heights exist"
@@ -21,13 +26,13 @@ reason_number NoHeights = 13
 
 -- the definition's answer that an answer of the code stands for
 abbrev pub checked_of : CheckAnswer → Checked
-checked_of Pass = pass
-checked_of (Fault r c p) = fails (reason_number r) c p
+checked_of (Ok u) = pass
+checked_of (Err f) = fails (reason_number f.reason) f.chunk f.at
 
 -- of one chunk: it passes, or number and offset are what is wrong with it
 abbrev pub ChunkIs : Chunk → ChunkAnswer → Type 0
-ChunkIs k one.Pass = ChunkPasses k
-ChunkIs k (one.Fault r p) = Wrong k (reason_number r) p
+ChunkIs k (Ok u) = ChunkPasses k
+ChunkIs k (Err f) = Wrong k (reason_number f.reason) f.at
 
 -- the answer for every chunk with this code and constants of these kinds
 abbrev pub ChunkDecided : List ℕ → List ℕ → ChunkAnswer → Type 0

@@ -1,6 +1,6 @@
 -- Inner step: the rules of the stack check over what the search works with, an instruction as a `Node`. proofs/Same.antt shows that they are the
 -- definition's (`Reach`, `Heights` of the crate `definition`), of which the contracts speak.
-use Rattle.std.specs.Prelude.{◌≡◌, ◌⊎◌, ℕ, ◌+◌, ◌-◌, ◌^◌, ◌≤◌, ◌<◌, ℤ, pos, ◌+ℤ◌, length}
+use Rattle.std.specs.Prelude.{◌≡◌, ◌⊎◌, true, false, ℕ, ◌+◌, ◌-◌, ◌^◌, ◌≤◌, ◌<◌, ℤ, pos, ◌+ℤ◌, length}
 use Rattle.definition.specs.Image.{Chunk}
 use Rattle.definition.specs.Table.{added}
 use Rattle.definition.specs.Decode.{fault}
@@ -9,7 +9,7 @@ use Rattle.stack_check.specs.declared.Node.{Node}
 
 -- t comes after the instruction
 abbrev pub Goes : Node → ℕ → Type 0
-Goes n t = (n.ends ≡ 0) × ((t ≡ n.first) ⊎ (t ≡ n.second))
+Goes n t = (n.ends ≡ false) × ((t ≡ n.first) ⊎ (t ≡ n.second))
 
 -- the offsets that can be reached: 0, and what comes after one that can be reached and has no fault
 pub data Reach (c : Chunk) : ℕ → Type 0 where
@@ -25,7 +25,7 @@ pub record Comes (c : Chunk) (H D : ℕ → ℕ) (t h d : ℕ) : Type 0 where
 -- what an instruction asks of its height and depth
 pub record Fit (n : Node) (h d : ℕ) : Type 0 where
   pub enough : n.need ≤ h
-  pub exactly : (n.exact ≡ 0 → ⊥) → h ≡ n.need
+  pub exactly : n.exact ≡ true → h ≡ n.need
   pub scoped : n.drops ≤ d
 
 -- the height and the depth after it: "the height goes by the table's change"

@@ -1,5 +1,5 @@
 -- Inner step: an instruction as the search works with it, made of the definition's instruction and its row of the definition's table.
-use Rattle.std.specs.Prelude.{◌≡◌, List, map, ℕ, ◌+◌, ◌-◌, ◌<◌, ℤ, pos, Ok}
+use Rattle.std.specs.Prelude.{◌≡◌, Bool, true, false, List, map, ℕ, ◌+◌, ◌-◌, ◌<◌, ℤ, pos, Ok}
 use Rattle.std.proofs.Math.Option.{Option, none, some}
 use Rattle.definition.specs.Image.{Constant, Chunk}
 use Rattle.definition.specs.Table as table
@@ -12,19 +12,19 @@ use Rattle.chunk.specs.declared.Instr.{Instr}
 use Rattle.stack_check.specs.declared.FlowEffect.{FlowEffect}
 use Rattle.stack_check.specs.declared.Node.{Node}
 
-abbrev effect : ℕ → ℕ → ℕ → ℕ → FlowEffect
+abbrev effect : Bool → ℕ → ℕ → Bool → FlowEffect
 effect e d o n = record { exact = e; drops = d; opens = o; ends = n }
 
 -- whether the height must be just what is needed, how many scopes are closed and opened, and whether the frame is left
 abbrev pub flow_effect : Flow → FlowEffect
-flow_effect Straight = effect 0 0 0 0
-flow_effect Opens = effect 0 0 1 0
-flow_effect Closes = effect 0 1 0 0
-flow_effect Forward = effect 0 0 0 0
-flow_effect Backward = effect 0 0 0 0
-flow_effect Forks = effect 0 0 0 0
-flow_effect Ends = effect 1 0 0 1
-flow_effect MayEnd = effect 1 0 0 0
+flow_effect Straight = effect false 0 0 false
+flow_effect Opens = effect false 0 1 false
+flow_effect Closes = effect false 1 0 false
+flow_effect Forward = effect false 0 0 false
+flow_effect Backward = effect false 0 0 false
+flow_effect Forks = effect false 0 0 false
+flow_effect Ends = effect true 0 0 true
+flow_effect MayEnd = effect true 0 0 false
 
 -- where control goes from an instruction whose next is at `next`, with the first operand a
 abbrev pub first_of : Flow → ℕ → ℕ → ℕ

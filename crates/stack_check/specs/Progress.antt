@@ -1,5 +1,5 @@
 -- Inner step: what holds of the search's work slices between two of its turns. No public contract speaks of it.
-use Rattle.std.specs.Prelude.{◌≡◌, List, [], ◌∷◌, ℕ, zero, suc, ◌+◌, ◌-◌, ◌≤◌, ◌<◌, length, get_or}
+use Rattle.std.specs.Prelude.{◌≡◌, Bool, true, false, List, [], ◌∷◌, ℕ, zero, suc, ◌+◌, ◌-◌, ◌≤◌, ◌<◌, length, get_or}
 use Rattle.definition.specs.Image.{Chunk}
 use Rattle.definition.specs.Decode.{fault}
 use Rattle.stack_check.specs.Node.{node_at}
@@ -17,19 +17,19 @@ unfolding zero_at
 zeros [] = 0
 zeros (x ∷ xs) = zero_at x + zeros xs
 
--- control came to t with height h and depth d, and that is noted; once `bad` is not 0 only that it came
-pub record Arrived (c : Chunk) (hs ds : List ℕ) (bad t h d : ℕ) : Type 0 where
+-- control came to t with height h and depth d, and that is noted; once `bad` is set only that it came
+pub record Arrived (c : Chunk) (hs ds : List ℕ) (bad : Bool) (t h d : ℕ) : Type 0 where
   pub seen : t < length c.code → 0 < get_or hs t 0
-  pub height : t < length c.code → bad ≡ 0 → get_or hs t 0 ≡ h + 1
-  pub depth : t < length c.code → bad ≡ 0 → get_or ds t 0 ≡ d
-  pub empty : length c.code ≤ t → bad ≡ 0 → h ≡ 0
+  pub height : t < length c.code → bad ≡ false → get_or hs t 0 ≡ h + 1
+  pub depth : t < length c.code → bad ≡ false → get_or ds t 0 ≡ d
+  pub empty : length c.code ≤ t → bad ≡ false → h ≡ 0
 
 -- an instruction that has no fault was handled at height h and depth d
-pub record Handled (c : Chunk) (hs ds : List ℕ) (bad : ℕ) (n : Node) (h d : ℕ) : Type 0 where
-  pub fit : bad ≡ 0 → Fit n h d
+pub record Handled (c : Chunk) (hs ds : List ℕ) (bad : Bool) (n : Node) (h d : ℕ) : Type 0 where
+  pub fit : bad ≡ false → Fit n h d
   pub goes : (t : ℕ) → Goes n t → Arrived c hs ds bad t (height_after n h) (depth_after n d)
 
-abbrev pub HandledAt : Chunk → List ℕ → List ℕ → ℕ → ℕ → Type 0
+abbrev pub HandledAt : Chunk → List ℕ → List ℕ → Bool → ℕ → Type 0
 HandledAt c hs ds bad o = Handled c hs ds bad (node_at c o) (get_or hs o 0 - 1) (get_or ds o 0)
 
 -- an offset of the list of those seen
@@ -38,9 +38,9 @@ pub record Listed (c : Chunk) (hs : List ℕ) (o : ℕ) : Type 0 where
   pub seen : 0 < get_or hs o 0
   pub reached : Reach c o
 
--- every assignment has the heights and depths noted, and there is none once `bad` is not 0
-pub record Forced (c : Chunk) (hs ds : List ℕ) (bad : ℕ) (H D : ℕ → ℕ) : Type 0 where
-  pub good : bad ≡ 0
+-- every assignment has the heights and depths noted, and there is none once `bad` is set
+pub record Forced (c : Chunk) (hs ds : List ℕ) (bad : Bool) (H D : ℕ → ℕ) : Type 0 where
+  pub good : bad ≡ false
   pub height : (o : ℕ) → o < length c.code → 0 < get_or hs o 0 → get_or hs o 0 ≡ H o + 1
   pub depth : (o : ℕ) → o < length c.code → 0 < get_or hs o 0 → get_or ds o 0 ≡ D o
 
@@ -68,7 +68,7 @@ pub record SearchKept (hs ds ts hs' ds' ts' : List ℕ) (s s' : Search) : Type 0
   pub depths : (o : ℕ) → 0 < get_or hs o 0 → get_or ds' o 0 ≡ get_or ds o 0
   pub todo : (j : ℕ) → j < s.tail → get_or ts' j 0 ≡ get_or ts j 0
   pub grows : s.tail ≤ s'.tail
-  pub worse : s'.bad ≡ 0 → s.bad ≡ 0
+  pub worse : s'.bad ≡ false → s.bad ≡ false
   pub head : s'.head ≡ s.head
   pub low : s'.low ≡ s.low
 
@@ -97,7 +97,7 @@ pub record Handling (c : Chunk) (hs ds ts hs' ds' ts' : List ℕ) (s s' : Search
   pub kept : SearchKept hs ds ts hs' ds' ts' s s'
   pub handled : HandledAt c hs' ds' s'.bad o
 
--- the answer of a test: 0 where the instruction is not fit
-pub record Tested (n : Node) (h d r : ℕ) : Type 0 where
-  pub yes : (r ≡ 0 → ⊥) → Fit n h d
-  pub not : r ≡ 0 → Fit n h d → ⊥
+-- the answer of a test: whether the instruction is fit
+pub record Tested (n : Node) (h d : ℕ) (r : Bool) : Type 0 where
+  pub yes : r ≡ true → Fit n h d
+  pub not : r ≡ false → Fit n h d → ⊥

@@ -3,7 +3,6 @@
 
 ghost use Rattle.std.specs.Prelude.{◌≡◌, ℕ, ◌+◌, ◌-◌, ◌^◌, ◌<◌, length};
 ghost use Rattle.definition.specs.Decode.{fault};
-ghost use Rattle.chunk.specs.Fault.{static_number};
 ghost use Rattle.stack_check.specs.Node.{flow_effect, first_of, second_of, Drawn, NodeIs, Here, chunk_of};
 ghost use Rattle.stack_check.specs.Flat.{Goes, Changeable, height_after};
 ghost use Rattle.stack_check.specs.Progress.{Progress, Coming, Visited, Spread, Handling, Tested, Listed};
@@ -11,7 +10,7 @@ ghost use Rattle.stack_check.specs.Answer.{reason_number, ChunkIs, ChunkDecided,
 ghost use Rattle.clearing.specs.Zero.{AllZero};
 
 use chunk::{CodeCursor, Flow, Instr, StaticFault};
-use clearing::clear_usize;
+use clearing::clear;
 
 // Why a chunk does not pass: what `chunk` can see of one instruction, or that no heights exist.
 #[derive(Clone, Copy)]
@@ -22,28 +21,50 @@ pub enum Reason {
     NoHeights,
 }
 
-// The answer for one chunk, with the offset of the fault.
-#[derive(Clone, Copy)]
-pub enum ChunkAnswer {
-    Pass,
-    Fault(Reason, usize),
+impl From<StaticFault> for Reason {
+    ghost use Rattle.chunk.specs.Fault.{static_number};
+    ghost use Rattle.stack_check.specs.Answer.{reason_number};
+
+    ghost from_gives = { λ f r. reason_number r ≡ static_number f };
+
+    fn from(fault: StaticFault) -> Reason {
+        match fault {
+            StaticFault::Instruction => Reason::Instruction,
+            StaticFault::Loop => Reason::Loop,
+            StaticFault::Constant => Reason::Constant,
+        }
+    }
 }
 
-// The answer for an image, with the chunk and the offset of the fault.
+// Why one chunk does not pass, and at which offset.
 #[derive(Clone, Copy)]
-pub enum CheckAnswer {
-    Pass,
-    Fault(Reason, usize, usize),
+pub struct ChunkFault {
+    pub reason: Reason,
+    pub at: usize,
 }
 
-// What an instruction's flow asks: `exact` is 1 where the height must be just what is needed, `drops` and `opens` say how many scopes are
-// closed and opened, `ends` is 1 where nothing comes after it.
+// A chunk for which no heights exist is at fault at offset 0.
+const NO_HEIGHTS: ChunkFault = ChunkFault {
+    reason: Reason::NoHeights,
+    at: 0,
+};
+
+// Why an image does not pass, in which chunk and at which offset.
+#[derive(Clone, Copy)]
+pub struct ImageFault {
+    pub reason: Reason,
+    pub chunk: usize,
+    pub at: usize,
+}
+
+// What an instruction's flow asks: `exact` says that the height must be just what is needed, `drops` and `opens` how many scopes are closed and
+// opened, `ends` that nothing comes after it.
 #[derive(Clone, Copy)]
 pub struct FlowEffect {
-    pub exact: usize,
+    pub exact: bool,
     pub drops: usize,
     pub opens: usize,
-    pub ends: usize,
+    pub ends: bool,
 }
 
 // What an instruction asks and does, and where control goes after it. `first` and `second` are the same but for JumpIfFalse.
@@ -51,47 +72,53 @@ pub struct FlowEffect {
 pub struct Node {
     pub need: usize,
     pub change: isize,
-    pub exact: usize,
+    pub exact: bool,
     pub drops: usize,
     pub opens: usize,
-    pub ends: usize,
+    pub ends: bool,
     pub first: usize,
     pub second: usize,
 }
 
 // The state of the search: `todo[..head]` are the offsets that were handled, `todo[head..tail]` those that wait; `low` is the lowest fault so
-// far, or the code's length; `bad` is 1 once no heights can exist. Each offset enters `todo` once, when it is first come to.
+// far, or the code's length; `bad` is set once no heights can exist. Each offset enters `todo` once, when it is first come to.
 #[derive(Clone, Copy)]
 pub struct Search {
     pub head: usize,
     pub tail: usize,
     pub low: usize,
-    pub bad: usize,
+    pub bad: bool,
 }
 
-fn effect(exact: usize, drops: usize, opens: usize, ends: usize) -> FlowEffect
-    ensures { (result.exact ≡ exact) × (result.drops ≡ drops) × (result.opens ≡ opens) × (result.ends ≡ ends) }
-{
-    FlowEffect {
-        exact: exact,
-        drops: drops,
-        opens: opens,
-        ends: ends,
-    }
-}
+const GOES_ON: FlowEffect = FlowEffect {
+    exact: false,
+    drops: 0,
+    opens: 0,
+    ends: false,
+};
 
 fn flow_effect(flow: Flow) -> FlowEffect
     ensures { result ≡ flow_effect flow }
 {
     match flow {
-        Flow::Straight => effect(0, 0, 0, 0),
-        Flow::Opens => effect(0, 0, 1, 0),
-        Flow::Closes => effect(0, 1, 0, 0),
-        Flow::Forward => effect(0, 0, 0, 0),
-        Flow::Backward => effect(0, 0, 0, 0),
-        Flow::Forks => effect(0, 0, 0, 0),
-        Flow::Ends => effect(1, 0, 0, 1),
-        Flow::MayEnd => effect(1, 0, 0, 0),
+        Flow::Opens => FlowEffect {
+            opens: 1,
+            ..GOES_ON
+        },
+        Flow::Closes => FlowEffect {
+            drops: 1,
+            ..GOES_ON
+        },
+        Flow::Ends => FlowEffect {
+            exact: true,
+            ends: true,
+            ..GOES_ON
+        },
+        Flow::MayEnd => FlowEffect {
+            exact: true,
+            ..GOES_ON
+        },
+        Flow::Straight | Flow::Forward | Flow::Backward | Flow::Forks => GOES_ON,
     }
 }
 
@@ -118,14 +145,9 @@ fn first_of(flow: Flow, next: CodeCursor, a: usize) -> usize
     ensures { result ≡ first_of flow next.at a }
 {
     match flow {
-        Flow::Straight => next.at,
-        Flow::Opens => next.at,
-        Flow::Closes => next.at,
         Flow::Forward => forward(next, a),
         Flow::Backward => back(next, a),
-        Flow::Forks => next.at,
-        Flow::Ends => next.at,
-        Flow::MayEnd => next.at,
+        _ => next.at,
     }
 }
 
@@ -134,14 +156,8 @@ fn second_of(flow: Flow, next: CodeCursor, a: usize) -> usize
     ensures { result ≡ second_of flow next.at a }
 {
     match flow {
-        Flow::Straight => next.at,
-        Flow::Opens => next.at,
-        Flow::Closes => next.at,
-        Flow::Forward => forward(next, a),
-        Flow::Backward => back(next, a),
         Flow::Forks => forward(next, a),
-        Flow::Ends => next.at,
-        Flow::MayEnd => next.at,
+        _ => first_of(flow, next, a),
     }
 }
 
@@ -176,20 +192,17 @@ fn height_after(node: Node, h: usize) -> usize
     (h as isize + node.change) as usize
 }
 
-// Whether an instruction is fit for height h and depth d: 0 for no.
-fn meets(node: Node, h: usize, d: usize) -> usize
+// Whether an instruction is fit for height h and depth d.
+fn meets(node: Node, h: usize, d: usize) -> bool
     ensures { Tested node h d result }
 {
     if h < node.need {
-        return 0;
+        return false;
     }
     if d < node.drops {
-        return 0;
+        return false;
     }
-    if node.exact == 0 {
-        return 1;
-    }
-    if h == node.need { 1 } else { 0 }
+    if node.exact { h == node.need } else { true }
 }
 
 // Control comes to `to` with height h and depth d.
@@ -207,13 +220,7 @@ fn visit(
     requires { Progress (chunk_of code.now kinds.now) heights.old depths.old todo.old s × Coming (chunk_of code.now kinds.now) s.tail to h d }
     ensures { Visited (chunk_of code.now kinds.now) heights.old depths.old todo.old heights.new depths.new todo.new s result to h d }
 {
-    let tail = s.tail;
-    let broken = Search {
-        head: s.head,
-        tail: tail,
-        low: s.low,
-        bad: 1,
-    };
+    let broken = Search { bad: true, ..s };
     if code.len() <= to {
         if h == 0 {
             return s;
@@ -224,12 +231,10 @@ fn visit(
     if heights[to] == 0 {
         heights[to] = h + 1;
         depths[to] = d;
-        todo[tail] = to;
+        todo[s.tail] = to;
         return Search {
-            head: s.head,
-            tail: tail + 1,
-            low: s.low,
-            bad: s.bad,
+            tail: s.tail + 1,
+            ..s
         };
     }
     if heights[to] == h + 1 {
@@ -257,7 +262,7 @@ fn spread(
     requires { Progress (chunk_of code.now kinds.now) heights.old depths.old todo.old s × ((t : ℕ) → Goes node t → Coming (chunk_of code.now kinds.now) s.tail t h d) }
     ensures { Spread (chunk_of code.now kinds.now) heights.old depths.old todo.old heights.new depths.new todo.new s result node h d }
 {
-    if node.ends != 0 {
+    if node.ends {
         return s;
     }
     let first = node.first;
@@ -283,13 +288,8 @@ fn handle(
     let node = node_of(i);
     let h = heights[at] - 1;
     let d = depths[at];
-    if meets(node, h, d) == 0 {
-        let broken = Search {
-            head: s.head,
-            tail: s.tail,
-            low: s.low,
-            bad: 1,
-        };
+    if !meets(node, h, d) {
+        let broken = Search { bad: true, ..s };
         return spread(code, kinds, heights, depths, todo, broken, node, 0, 0);
     }
     let h2 = height_after(node, h);
@@ -315,40 +315,25 @@ fn step(
     match chunk::inspect(code, kinds, at) {
         Err(_) => {
             if at < low {
-                return Search {
+                Search {
                     head: head + 1,
-                    tail: s.tail,
                     low: at,
-                    bad: s.bad,
-                };
+                    ..s
+                }
             } else {
-                return Search {
+                Search {
                     head: head + 1,
-                    tail: s.tail,
-                    low: low,
-                    bad: s.bad,
-                };
+                    ..s
+                }
             }
         }
         Ok(i) => {
             let r = handle(code, kinds, heights, depths, todo, s, at, i);
             Search {
                 head: head + 1,
-                tail: r.tail,
-                low: r.low,
-                bad: r.bad,
+                ..r
             }
         }
-    }
-}
-
-fn reason_of(f: StaticFault) -> Reason
-    ensures { reason_number result ≡ static_number f }
-{
-    match f {
-        StaticFault::Instruction => Reason::Instruction,
-        StaticFault::Loop => Reason::Loop,
-        StaticFault::Constant => Reason::Constant,
     }
 }
 
@@ -358,7 +343,7 @@ fn fault_reason(code: &[u8], kinds: &[u8], at: usize) -> Reason
     ensures { reason_number result ≡ fault (chunk_of code.now kinds.now) at }
 {
     match chunk::inspect(code, kinds, at) {
-        Err(f) => reason_of(f),
+        Err(f) => Reason::from(f),
         Ok(_) => Reason::NoHeights,
     }
 }
@@ -370,15 +355,15 @@ fn judge(
     heights: &mut [usize],
     depths: &mut [usize],
     todo: &mut [usize],
-) -> ChunkAnswer
+) -> Result<(), ChunkFault>
     requires { CheckRoomy (length code.now) heights.old depths.old todo.old }
     ensures { ChunkIs (chunk_of code.now kinds.now) result }
 {
     let n = code.len();
     if n == 0 {
-        return ChunkAnswer::Pass;
+        return Ok(());
     }
-    clear_usize(heights);
+    clear(heights);
     heights[0] = 1;
     depths[0] = 0;
     todo[0] = 0;
@@ -386,20 +371,17 @@ fn judge(
         head: 0,
         tail: 1,
         low: n,
-        bad: 0,
+        bad: false,
     };
     while s.head < s.tail {
         s = step(code, kinds, heights, depths, todo, s);
     }
     let low = s.low;
     if low < n {
-        return ChunkAnswer::Fault(fault_reason(code, kinds, low), low);
+        let reason = fault_reason(code, kinds, low);
+        return Err(ChunkFault { reason, at: low });
     }
-    if s.bad == 0 {
-        ChunkAnswer::Pass
-    } else {
-        ChunkAnswer::Fault(Reason::NoHeights, 0)
-    }
+    if s.bad { Err(NO_HEIGHTS) } else { Ok(()) }
 }
 
 // The stack check of one chunk. The work slices are long enough for its code; all of them is 0 afterwards.
@@ -409,15 +391,15 @@ pub fn check_chunk(
     heights: &mut [usize],
     depths: &mut [usize],
     todo: &mut [usize],
-) -> ChunkAnswer
+) -> Result<(), ChunkFault>
     requires { CheckRoomy (length code.now) heights.old depths.old todo.old }
     ensures answer { ChunkDecided code.now kinds.now result }
     ensures cleared { AllZero heights.new × AllZero depths.new × AllZero todo.new }
 {
     let answer = judge(code, kinds, heights, depths, todo);
-    clear_usize(heights);
-    clear_usize(depths);
-    clear_usize(todo);
+    clear(heights);
+    clear(depths);
+    clear(todo);
     answer
 }
 
@@ -430,7 +412,7 @@ fn judge_row(
     heights: &mut [usize],
     depths: &mut [usize],
     todo: &mut [usize],
-) -> ChunkAnswer
+) -> Result<(), ChunkFault>
     requires { RowLent bytes.now kinds.now table.now c heights.old depths.old todo.old }
     ensures { RowDecided bytes.now kinds.now table.now c result }
 {
@@ -457,21 +439,20 @@ fn judge_all(
     heights: &mut [usize],
     depths: &mut [usize],
     todo: &mut [usize],
-) -> CheckAnswer
+) -> Result<(), ImageFault>
     requires { Lent bytes.now kinds.now table.now chunks heights.old depths.old todo.old }
     ensures { Decided bytes.now kinds.now table.now chunks result }
 {
-    let mut c = 0;
-    while c < chunks {
-        match judge_row(bytes, kinds, table, c, heights, depths, todo) {
-            ChunkAnswer::Pass => {}
-            ChunkAnswer::Fault(reason, at) => {
-                return CheckAnswer::Fault(reason, c, at);
-            }
+    for c in 0..chunks {
+        if let Err(fault) = judge_row(bytes, kinds, table, c, heights, depths, todo) {
+            return Err(ImageFault {
+                reason: fault.reason,
+                chunk: c,
+                at: fault.at,
+            });
         }
-        c += 1;
     }
-    CheckAnswer::Pass
+    Ok(())
 }
 
 // The stack check of an image that `load` left in the slices: `bytes` with the code, `kinds` of all constants, and `table`, four numbers for each
@@ -485,14 +466,14 @@ pub fn check_image(
     heights: &mut [usize],
     depths: &mut [usize],
     todo: &mut [usize],
-) -> CheckAnswer
+) -> Result<(), ImageFault>
     requires { Lent bytes.now kinds.now table.now chunks heights.old depths.old todo.old }
     ensures answer { Decided bytes.now kinds.now table.now chunks result }
     ensures cleared { AllZero heights.new × AllZero depths.new × AllZero todo.new }
 {
     let answer = judge_all(bytes, kinds, table, chunks, heights, depths, todo);
-    clear_usize(heights);
-    clear_usize(depths);
-    clear_usize(todo);
+    clear(heights);
+    clear(depths);
+    clear(todo);
     answer
 }

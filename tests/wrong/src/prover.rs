@@ -51,15 +51,20 @@ impl Log {
             && !self.0.lines().any(waits)
     }
 
-    /// What is said of a function: `proved`, or why not.
+    /// What is said of a function: `proved`, or why not. Of a method that several types have, what is said of one that is not proved.
     fn verdict(&self, name: &str) -> Option<&str> {
         let said = |line: &'_ str| -> Option<usize> {
             let path = line.strip_prefix("fn ")?.split(": ").next()?;
             (path.rsplit("::").next() == Some(name)).then_some("fn ".len() + path.len() + 2)
         };
-        self.0
-            .lines()
-            .find_map(|line| said(line).map(|at| &line[at..]))
+        let of_name = || {
+            self.0
+                .lines()
+                .filter_map(|line| said(line).map(|at| &line[at..]))
+        };
+        of_name()
+            .find(|v| !v.starts_with("proved"))
+            .or_else(|| of_name().next())
     }
 
     pub fn unproved(&self, name: &str) -> bool {

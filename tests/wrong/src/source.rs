@@ -63,11 +63,13 @@ pub fn place_of(text: &str, name: &str) -> Option<(usize, usize)> {
     Some((found.1, found.1 + found.2.len()))
 }
 
-/// Whether a text calls a function of this name.
+/// Whether a text calls a function of this name, with types written at the call or without.
 fn calls(body: &str, name: &str) -> bool {
-    let call = format!("{name}(");
-    body.match_indices(&call)
-        .any(|(at, _)| !body[..at].ends_with(is_in_name) && !body[..at].ends_with("fn "))
+    let calls = [format!("{name}("), format!("{name}::<")];
+    let begins = |at: usize| !body[..at].ends_with(is_in_name) && !body[..at].ends_with("fn ");
+    calls
+        .iter()
+        .any(|call| body.match_indices(call).any(|(at, _)| begins(at)))
 }
 
 /// The names of the public functions.

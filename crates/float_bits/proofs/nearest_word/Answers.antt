@@ -18,12 +18,18 @@ low : (b : ℕ) → b < 2 ^ 63 → 0 + b % 2 ^ 63 ≡ b
 low b h = omega arith
 
 pub returns-then-b-ge9223372036854775808 : goal.returns-then-b-ge9223372036854775808
-returns-then-b-ge9223372036854775808 c =
-    c.nearest_magnitude-w.ensures.nearest true
-    ∙ ap (λ (b : ℕ). nearest_binary32 (of_bits binary64 b)) (high c.args.b c.if-b-ge9223372036854775808.true (search rules))
+returns-then-b-ge9223372036854775808 c = record {
+  nearest =
+      c.nearest_magnitude-w.ensures.nearest true
+      ∙ ap (λ (b : ℕ). nearest_binary32 (of_bits binary64 b)) (high c.args.b c.if-b-ge9223372036854775808.true (search rules));
+  upper_bound = omega (arith, c.nearest_magnitude-w.ensures.upper_bound);
+}
 
 pub returns-else-b-ge9223372036854775808 : goal.returns-else-b-ge9223372036854775808
-returns-else-b-ge9223372036854775808 c =
-    ap (of_bits binary32) (sym (zero-add _))
-    ∙ c.nearest_magnitude-w.ensures.nearest false
-    ∙ ap (λ (b : ℕ). nearest_binary32 (of_bits binary64 b)) (low c.args.b c.if-b-ge9223372036854775808.false)
+returns-else-b-ge9223372036854775808 c = record {
+  nearest =
+      ap (of_bits binary32) (sym (zero-add _))
+      ∙ c.nearest_magnitude-w.ensures.nearest false
+      ∙ ap (λ (b : ℕ). nearest_binary32 (of_bits binary64 b)) (low c.args.b c.if-b-ge9223372036854775808.false);
+  upper_bound = omega (arith, c.nearest_magnitude-w.ensures.upper_bound);
+}

@@ -5,36 +5,25 @@ use Rattle.image.specs.Answer.{slices}
 use Rattle.image.proofs.Reading.{loads_short, short_bytes, short_ends, short_kinds, short_payloads, short_table, loads_long, loads_whole}
 use Rattle.image.proofs.Nested.{same_load}
 use Rattle.image.proofs.load.Goals as goal
+use Rattle.image.proofs.load.Goals.{
+  then-bytes-lt-BYTES-via-then-bytes-lt-BYTES,
+  then-bytes-lt-BYTES-via-else-bytes-lt-BYTES+then-ends-lt-ENDS,
+  then-bytes-lt-BYTES-via-else-bytes-lt-BYTES+else-ends-lt-ENDS+then-kinds-lt-KINDS,
+  then-bytes-lt-BYTES-via-else-bytes-lt-BYTES+else-ends-lt-ENDS+else-kinds-lt-KINDS+then-payloads-lt-PAYLOADS,
+  then-bytes-lt-BYTES-via-else-bytes-lt-BYTES+else-ends-lt-ENDS+else-kinds-lt-KINDS+else-payloads-lt-PAYLOADS+then-table-lt-TABLE,
+}
 
 pub returns-then-bytes-lt-BYTES : goal.returns-then-bytes-lt-BYTES
 returns-then-bytes-lt-BYTES c =
-    let args = c.args in
-    loads_short args.image.now _ (short_bytes (slices args.bytes.now args.ends.now args.kinds.now args.payloads.now args.table.now)
-    c.if-bytes-lt-BYTES.true)
-
-pub returns-then-ends-lt-ENDS : goal.returns-then-ends-lt-ENDS
-returns-then-ends-lt-ENDS c =
-    let args = c.args in
-    loads_short args.image.now _ (short_ends (slices args.bytes.now args.ends.now args.kinds.now args.payloads.now args.table.now)
-    c.if-ends-lt-ENDS.true)
-
-pub returns-then-kinds-lt-KINDS : goal.returns-then-kinds-lt-KINDS
-returns-then-kinds-lt-KINDS c =
-    let args = c.args in
-    loads_short args.image.now _ (short_kinds (slices args.bytes.now args.ends.now args.kinds.now args.payloads.now args.table.now)
-    c.if-kinds-lt-KINDS.true)
-
-pub returns-then-payloads-lt-PAYLOADS : goal.returns-then-payloads-lt-PAYLOADS
-returns-then-payloads-lt-PAYLOADS c =
-    let args = c.args in
-    loads_short args.image.now _ (short_payloads (slices args.bytes.now args.ends.now args.kinds.now args.payloads.now args.table.now)
-    c.if-payloads-lt-PAYLOADS.true)
-
-pub returns-then-table-lt-TABLE : goal.returns-then-table-lt-TABLE
-returns-then-table-lt-TABLE c =
-    let args = c.args in
-    loads_short args.image.now _ (short_table (slices args.bytes.now args.ends.now args.kinds.now args.payloads.now args.table.now)
-    c.if-table-lt-TABLE.true)
+    let a = c.args in
+    let m = slices a.bytes.now a.ends.now a.kinds.now a.payloads.now a.table.now in
+    loads_short a.image.now m (elim c.then-bytes-lt-BYTES.branch [
+      | then-bytes-lt-BYTES-via-then-bytes-lt-BYTES w ↦ short_bytes m w.if-bytes-lt-BYTES.true
+      | then-bytes-lt-BYTES-via-else-bytes-lt-BYTES+then-ends-lt-ENDS w ↦ short_ends m w.if-ends-lt-ENDS.true
+      | then-bytes-lt-BYTES-via-else-bytes-lt-BYTES+else-ends-lt-ENDS+then-kinds-lt-KINDS w ↦ short_kinds m w.if-kinds-lt-KINDS.true
+      | then-bytes-lt-BYTES-via-else-bytes-lt-BYTES+else-ends-lt-ENDS+else-kinds-lt-KINDS+then-payloads-lt-PAYLOADS w ↦ short_payloads m w.if-payloads-lt-PAYLOADS.true
+      | then-bytes-lt-BYTES-via-else-bytes-lt-BYTES+else-ends-lt-ENDS+else-kinds-lt-KINDS+else-payloads-lt-PAYLOADS+then-table-lt-TABLE w ↦ short_table m w.if-table-lt-TABLE.true
+    ])
 
 pub returns-then-image-gt-IMAGE_MOST : goal.returns-then-image-gt-IMAGE_MOST
 returns-then-image-gt-IMAGE_MOST c =

@@ -5,6 +5,7 @@ use native.Mathlib.Omega.{arith}
 use mathlib.Core.Path.{refl, ◌∙◌}
 use Rattle.image.specs.Answer.{slices}
 use Rattle.image.proofs.Reading.{reading_start, reading_next, next_less, reading_ready, reading_stop, reading_end}
+use Rattle.std.proofs.lemmas.Result.{err_from_is_err_and}
 use Rattle.image.proofs.load_lines.Goals as goal
 
 pub loop-at-init : goal.loop-at-init
@@ -43,7 +44,7 @@ loop-at-smaller c =
     next_less args.image.now (slices args.bytes.now args.ends.now args.kinds.now args.payloads.now args.table.now) (slices
     loop.bytes loop.ends loop.kinds loop.payloads loop.table) (slices take_line.new.bytes take_line.new.ends take_line.new.kinds
     take_line.new.payloads take_line.new.table) loop.s loop.at loop.k take_line.result loop.invariant.5
-    take_line.ensures _ _ c.in-Next.is
+    take_line.ensures c.in-Next.state c.in-Next.next (c.in_ok-state.was ∙ rw c.in-Next.is)
 
 pub loop-at-preserved : goal.loop-at-preserved
 loop-at-preserved c =
@@ -60,7 +61,7 @@ loop-at-preserved c =
       reading_next args.image.now (slices args.bytes.now args.ends.now
           args.kinds.now args.payloads.now args.table.now) (slices loop.bytes loop.ends loop.kinds loop.payloads loop.table)
           (slices take_line.new.bytes take_line.new.ends take_line.new.kinds take_line.new.payloads take_line.new.table)
-          loop.s loop.at loop.k take_line.result loop.invariant.5 take_line.ensures _ _ c.in-Next.is (record {
+          loop.s loop.at loop.k take_line.result loop.invariant.5 take_line.ensures c.in-Next.state c.in-Next.next (c.in_ok-state.was ∙ rw c.in-Next.is) (record {
             long_bytes =
                 take_line.auto.bytes;
             long_ends = take_line.auto.ends;
@@ -114,54 +115,20 @@ returns-in-Ready c =
     reading_ready args.image.now (slices args.bytes.now args.ends.now args.kinds.now args.payloads.now args.table.now) (slices
     loop.bytes loop.ends loop.kinds loop.payloads loop.table) (slices take_line.new.bytes take_line.new.ends take_line.new.kinds
     take_line.new.payloads take_line.new.table) loop.s loop.at loop.k take_line.result loop.invariant.5
-    take_line.ensures _ c.in-Ready.is
+    take_line.ensures c.in-Ready.t (c.in_ok-state.was ∙ rw c.in-Ready.is)
 
-pub shape_of-bytes-in-Stop : goal.shape_of-bytes-in-Stop
-shape_of-bytes-in-Stop c =
-    let take_line = c.take_line in
-    let loop = c.loop-at
-    in
-    take_line.auto.bytes ∙ loop.invariant.0
-
-pub shape_of-ends-in-Stop : goal.shape_of-ends-in-Stop
-shape_of-ends-in-Stop c =
-    let take_line = c.take_line in
-    let loop = c.loop-at
-    in
-    take_line.auto.ends ∙ loop.invariant.1
-
-pub shape_of-kinds-in-Stop : goal.shape_of-kinds-in-Stop
-shape_of-kinds-in-Stop c =
-    let take_line = c.take_line in
-    let loop = c.loop-at
-    in
-    take_line.auto.kinds ∙ loop.invariant.2
-
-pub shape_of-payloads-in-Stop : goal.shape_of-payloads-in-Stop
-shape_of-payloads-in-Stop c =
-    let take_line = c.take_line in
-    let loop = c.loop-at
-    in
-    take_line.auto.payloads ∙ loop.invariant.3
-
-pub shape_of-table-in-Stop : goal.shape_of-table-in-Stop
-shape_of-table-in-Stop c =
-    let take_line = c.take_line in
-    let loop = c.loop-at
-    in
-    take_line.auto.table ∙ loop.invariant.4
-
-pub returns-in-Stop : goal.returns-in-Stop
-returns-in-Stop c =
+pub returns-in_err-state : goal.returns-in_err-state
+returns-in_err-state c =
     let take_line = c.take_line in
     let loop = c.loop-at
     in
     let args = c.args in
     let pre = c.requires in
-    reading_stop args.image.now (slices args.bytes.now args.ends.now args.kinds.now args.payloads.now args.table.now) (slices
+    let err = err_from_is_err_and c.from_residual.result c.from_residual.ensures.1 in
+    rw (err.1, err.2) (reading_stop args.image.now (slices args.bytes.now args.ends.now args.kinds.now args.payloads.now args.table.now) (slices
     loop.bytes loop.ends loop.kinds loop.payloads loop.table) (slices take_line.new.bytes take_line.new.ends take_line.new.kinds
     take_line.new.payloads take_line.new.table) loop.s loop.at loop.k take_line.result loop.invariant.5
-    take_line.ensures _ _ c.in-Stop.is pre.0
+    take_line.ensures _ c.in_err-state.was pre.0)
 
 pub shape_of-bytes : goal.shape_of-bytes
 shape_of-bytes c = c.loop-at.invariant.0

@@ -8,7 +8,7 @@ use Prim.Native.Nat.{ℕ, ◌-◌, ◌≤◌, ◌<◌}
 use lib.ListN.{length, take, drop}
 use Rattle.image.specs.Answer.{slices}
 use borrow.Rule.Slice.PartMut.{same_len_mid}
-use Rattle.image.proofs.Reading.{read_good, bytes_kept, open_line, bad_line, fine_here, line_taken}
+use Rattle.image.proofs.Reading.{read_good, bytes_kept, fault_line, open_line, bad_line, fine_here, line_taken}
 use Rattle.image.proofs.take_line.Goals as goal
 
 inside : {a b : ℕ} → a ≤ b → (a ≡ b → ⊥) → a < b
@@ -18,8 +18,9 @@ pub returns-then-end-image : goal.returns-then-end-image
 returns-then-end-image c =
     let args = c.args in
     let pre = c.requires in
-    open_line args.image.now args.s args.at c.line_end-end.result args.k _ c.line_end-end.ensures.within.0 c.line_end-end.ensures.before
-    pre.0 c.if-end-image.true
+    rw c.at_line.ensures
+    (open_line args.image.now args.s args.at c.line_end-end.result args.k _ c.line_end-end.ensures.within.0 c.line_end-end.ensures.before pre.0
+    c.if-end-image.true)
 
 pub overflow_add-to : goal.overflow_add-to
 overflow_add-to c =
@@ -27,7 +28,7 @@ overflow_add-to c =
     let line_end = c.line_end-end in
     let args = c.args in
     let pre = c.requires in
-    let g = read_good args.image.now read_line.new.out read_line.result _ _ args.at line_end.result _ c.in-Line.is
+    let g = read_good args.image.now read_line.new.out read_line.result _ args.at line_end.result _ c.in-Some.is
     line_end.ensures.within.0 line_end.ensures.within.1 read_line.ensures.says read_line.ensures.fits in omega (
       arith,
       g.digits,
@@ -39,13 +40,13 @@ overflow_add-to c =
 
 pub slice_bounds-record_of-end : goal.slice_bounds-record_of-end
 slice_bounds-record_of-end c =
-    let tag = c.in-Line in
+    let some = c.in-Some in
     let read_line = c.read_line in
     let line_end = c.line_end-end in
     let args = c.args in
     let pre = c.requires in
     rw (same_len_mid args.s.bytes (length args.bytes.now - args.s.bytes) args.bytes.now read_line.new.out read_line.auto.out)
-    (let g = read_good args.image.now read_line.new.out read_line.result _ _ args.at line_end.result _ tag.is
+    (let g = read_good args.image.now read_line.new.out read_line.result _ args.at line_end.result _ some.is
     line_end.ensures.within.0 line_end.ensures.within.1 read_line.ensures.says read_line.ensures.fits in omega (
       arith,
       g.digits,
@@ -57,14 +58,14 @@ slice_bounds-record_of-end c =
 
 pub accept-t-requires : goal.accept-t-requires
 accept-t-requires c =
-    let record_of = c.record_of-r in
-    let tag = c.in-Line in
+    let record_of = c.record_of in
+    let some = c.in-Some in
     let read_line = c.read_line in
     let if1 = c.if-end-image in
     let line_end = c.line_end-end in
     let args = c.args in
     let pre = c.requires in
-    let g = read_good args.image.now read_line.new.out read_line.result _ _ args.at line_end.result _ tag.is line_end.ensures.within.0
+    let g = read_good args.image.now read_line.new.out read_line.result _ args.at line_end.result _ some.is line_end.ensures.within.0
     line_end.ensures.within.1 read_line.ensures.says read_line.ensures.fits in
     record {
       room_ends = pre.3.room_ends;
@@ -79,9 +80,8 @@ accept-t-requires c =
       short_code = pre.4.short_code;
       few_own = pre.4.few_own;
       fine = fine_here args.image.now args.bytes.now read_line.new.out (drop (length args.bytes.now - args.s.bytes) (drop
-          args.s.bytes args.bytes.now)) args.s args.at line_end.result tag.size tag.tag record_of.result
-          (omega (arith, pre.4.few_bytes, pre.3.room_bytes, pre.0, pre.1)) (rw read_line.auto.out g.fits) record_of.ensures
-          g.line_is;
+          args.s.bytes args.bytes.now)) args.s args.at line_end.result some.line.size some.line.tag c.in-Ok.r
+          (omega (arith, pre.4.few_bytes, pre.3.room_bytes, pre.0, pre.1)) (rw read_line.auto.out g.fits) (rw c.in-Ok.is at record_of.ensures) g.line_is;
     }
 
 pub overflow_add-next : goal.overflow_add-next
@@ -101,18 +101,18 @@ overflow_add-k c =
     let pre = c.requires in
     omega (arith, pre.0, pre.1, pre.2)
 
-pub returns-in-Faulty : goal.returns-in-Faulty
-returns-in-Faulty c =
+pub returns-in_default : goal.returns-in_default
+returns-in_default c =
     let read_line = c.read_line in
     let if1 = c.if-end-image in
     let line_end = c.line_end-end in
     let args = c.args in
     let pre = c.requires in
     let h = inside line_end.ensures.within.1 if1.false in
-    bad_line args.image.now args.s read_line.result read_line.new.out args.at line_end.result args.k (slices args.bytes.now
+    rw c.at_line-in_default.ensures (bad_line args.image.now args.s read_line.result read_line.new.out args.at line_end.result args.k (slices args.bytes.now
     args.ends.now args.kinds.now args.payloads.now args.table.now) (slices (take args.s.bytes args.bytes.now ++
     (read_line.new.out ++ (drop (length args.bytes.now - args.s.bytes) (drop args.s.bytes args.bytes.now)))) args.ends.now
-    args.kinds.now args.payloads.now args.table.now) c.in-Faulty.is line_end.ensures.within.0 line_end.ensures.before
+    args.kinds.now args.payloads.now args.table.now) c.in_default.is line_end.ensures.within.0 line_end.ensures.before
     h (line_end.ensures.found h) read_line.ensures.says (record {
       same_bytes = (bytes_kept args.image.now args.bytes.now
           read_line.new.out args.s args.at line_end.result pre.4 line_end.ensures.within.0 line_end.ensures.within.1 pre.1 pre.3.room_bytes
@@ -121,29 +121,51 @@ returns-in-Faulty c =
       same_kinds = refl;
       same_payloads = refl;
       same_table = refl;
-    })
+    }))
 
-pub returns-in-Line : goal.returns-in-Line
-returns-in-Line c =
-    let accept = c.accept-t in
-    let record_of = c.record_of-r in
-    let tag = c.in-Line in
+pub returns-in-Err : goal.returns-in-Err
+returns-in-Err c =
+    let record_of = c.record_of in
+    let some = c.in-Some in
     let read_line = c.read_line in
-    let if1 = c.if-end-image in
     let line_end = c.line_end-end in
     let args = c.args in
     let pre = c.requires in
-    let g = read_good args.image.now read_line.new.out read_line.result _ _ args.at line_end.result _ tag.is line_end.ensures.within.0
+    let g = read_good args.image.now read_line.new.out read_line.result _ args.at line_end.result _ some.is line_end.ensures.within.0
     line_end.ensures.within.1 read_line.ensures.says read_line.ensures.fits in
-    let h = inside line_end.ensures.within.1 if1.false in
-    line_taken args.image.now args.bytes.now read_line.new.out (drop (length args.bytes.now - args.s.bytes) (drop args.s.bytes
-    args.bytes.now)) _ _ _ _ _ _ _ _ args.s _ args.at line_end.result tag.size _ args.k _ _ (omega (
+    let h = inside line_end.ensures.within.1 c.if-end-image.false in
+    rw c.at_line-in-Err.ensures (fault_line args.image.now args.bytes.now read_line.new.out (drop (length args.bytes.now - args.s.bytes) (drop args.s.bytes
+    args.bytes.now)) args.ends.now args.kinds.now args.payloads.now args.table.now args.s args.at line_end.result some.line.size some.line.tag args.k c.in-Err.reason (omega (
       arith,
       pre.4.few_bytes,
       pre.3.room_bytes,
       pre.0,
       pre.1,
-    )) (rw read_line.auto.out g.fits) line_end.ensures.within.0 h record_of.ensures accept.ensures
+    )) (rw read_line.auto.out g.fits) line_end.ensures.within.0 h (rw c.in-Err.is at record_of.ensures) line_end.ensures.before (line_end.ensures.found h) g.line_is
+    (bytes_kept args.image.now args.bytes.now read_line.new.out args.s args.at line_end.result pre.4 line_end.ensures.within.0 line_end.ensures.within.1
+    pre.1 pre.3.room_bytes read_line.auto.out read_line.ensures.behind))
+
+pub returns : goal.returns
+returns c =
+    let accept = c.accept-t in
+    let record_of = c.record_of in
+    let some = c.in-Some in
+    let read_line = c.read_line in
+    let if1 = c.if-end-image in
+    let line_end = c.line_end-end in
+    let args = c.args in
+    let pre = c.requires in
+    let g = read_good args.image.now read_line.new.out read_line.result _ args.at line_end.result _ some.is line_end.ensures.within.0
+    line_end.ensures.within.1 read_line.ensures.says read_line.ensures.fits in
+    let h = inside line_end.ensures.within.1 if1.false in
+    line_taken args.image.now args.bytes.now read_line.new.out (drop (length args.bytes.now - args.s.bytes) (drop args.s.bytes
+    args.bytes.now)) _ _ _ _ _ _ _ _ args.s _ args.at line_end.result some.line.size _ args.k _ _ (omega (
+      arith,
+      pre.4.few_bytes,
+      pre.3.room_bytes,
+      pre.0,
+      pre.1,
+    )) (rw read_line.auto.out g.fits) line_end.ensures.within.0 h (rw c.in-Ok.is at record_of.ensures) accept.ensures
     c.finish.ensures line_end.ensures.before (line_end.ensures.found h) g.line_is g.digits pre.4 pre.1 (bytes_kept args.image.now
     args.bytes.now read_line.new.out args.s args.at line_end.result pre.4 line_end.ensures.within.0 line_end.ensures.within.1
     pre.1 pre.3.room_bytes read_line.auto.out read_line.ensures.behind)

@@ -10,6 +10,6 @@ loop-at-preserved g c =
     record {
       within = search rules;
       long = search rules;
-      taken = subst (Consumes _ _) (taken_more c.loop-at.at _ c.read_part-r.result.last c.loop-at.buf c.read_part-r.new.buf c.read_part-r.ensures.answer.0 c.read_part-r.ensures.front)
-          (Consumes-trans _ _ _ _ _ c.loop-at.invariant.taken c.read_part-r.ensures.taken);
+      taken = subst (Consumes _ _) (taken_more c.loop-at.at c.in-Ok.n _ c.loop-at.buf c.read.new.buf (search rules) (search rules))
+          (Consumes-trans _ _ _ _ _ c.loop-at.invariant.taken (search rules));
     }

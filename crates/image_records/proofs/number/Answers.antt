@@ -1,34 +1,19 @@
--- Each turn takes one byte more: v with the bytes still to come is the number of all, and v is below 256 to the power i; the bytes left fall.
-
-use native.Mathlib.Omega.{arith}
-use mathlib.Core.Path.{refl, ◌∙◌, ap}
-use Prim.Native.Nat.{ℕ, ◌+◌}
-use lib.ListN.{get_or, drop}
-use Rattle.definition.specs.Lines.{number_from}
-use Rattle.image_records.proofs.Fields.{number_more, number_end, number_room, number_next}
+-- Each turn takes one byte more.
+use Rattle.std.proofs.Common.{◌∙◌, arith}
+use Rattle.image_records.proofs.Fields.{number_more, number_end, number_room, number_step}
 use Rattle.image_records.proofs.number.Goals as goal
 
-pub loop-i-init : goal.loop-i-init
-loop-i-init c = (omega arith, omega arith, refl)
+pub overflow_mul-v : goal.overflow_mul-v
+overflow_mul-v c = let small = number_room _ _ c.loop-x.invariant.small (omega arith) in omega arith
 
-pub with_byte-v-requires : goal.with_byte-v-requires
-with_byte-v-requires c =
-    let loop = c.loop-i in
-    number_room _ _ loop.invariant.1 (omega arith)
-
-pub loop-i-preserved : goal.loop-i-preserved
-loop-i-preserved c =
-    let loop_test = c.loop-i-test in
-    let loop = c.loop-i in
-    let args = c.args in (
-      omega arith,
-      number_next _ _ _ _ c.with_byte-v.ensures.0 loop.invariant.1 c.with_byte-v.ensures.1,
-      ap (λ (u : ℕ). number_from u (drop (loop.i
-          + 1 + 1) args.b.now)) c.with_byte-v.ensures.0 ∙ number_more args.b.now loop.v loop.i (get_or args.b.now (loop.i + 1) 0)
-          loop_test.true refl ∙ loop.invariant.2,
-    )
+pub loop-x-preserved : goal.loop-x-preserved
+loop-x-preserved c =
+    let loop = c.loop-x in
+    let b = c.args.b.now in
+    record {
+      small = number_step loop.v c.from.result loop.x-index loop.invariant.small (omega (arith, c.from.ensures, c.type_inv.b loop.x-index));
+      same = number_more b loop.v loop.x-index c.from.result c.loop-x-test.true c.from.ensures ∙ loop.invariant.same;
+    }
 
 pub returns : goal.returns
-returns c =
-    let args = c.args in
-    number_end args.b.now _ c.loop-i.i c.loop-i-test.false ∙ c.loop-i.invariant.2
+returns c = number_end c.args.b.now _ c.loop-x.x-index c.loop-x-test.false ∙ c.loop-x.invariant.same

@@ -1,32 +1,17 @@
--- Each turn passes one printable byte: the bytes from i on are all printable exactly if all of them are; the bytes left fall.
-
-use native.Mathlib.Omega.{arith}
-use mathlib.Core.Path.{refl, ◌∙◌, sym}
-use Rattle.image_records.proofs.Fields.{plain_more, plain_low, plain_high, plain_end}
+-- Each turn passes one printable byte.
+use Rattle.std.proofs.Common.{sym, ◌∙◌}
+use Rattle.image_records.proofs.Fields.{plain_more, plain_wrong, plain_end}
 use Rattle.image_records.proofs.plain.Goals as goal
 
-pub loop-i-init : goal.loop-i-init
-loop-i-init c = (omega arith, refl)
+pub returns-then-not-is_printable : goal.returns-then-not-is_printable
+returns-then-not-is_printable c =
+    let wrong = sym c.is_printable.ensures ∙ c.if-not-is_printable.true in
+    sym (plain_wrong c.args.b.now c.loop-x.x-index c.loop-x-test.true wrong) ∙ c.loop-x.invariant
 
-pub returns-then-b-i-lt32 : goal.returns-then-b-i-lt32
-returns-then-b-i-lt32 c =
-    let loop_test = c.loop-i-test in
-    let loop = c.loop-i in
-    sym (plain_low _ _ loop_test.true c.if-b-i-lt32.true) ∙ loop.invariant.1
-
-pub loop-i-preserved : goal.loop-i-preserved
-loop-i-preserved c =
-    let if1 = c.if-b-i-lt32 in
-    let loop_test = c.loop-i-test in
-    let loop = c.loop-i in
-    (omega arith, sym (plain_more _ _ loop_test.true if1.false c.if-b-i-le126.true) ∙ loop.invariant.1)
-
-pub returns-else-b-i-le126 : goal.returns-else-b-i-le126
-returns-else-b-i-le126 c =
-    let if1 = c.if-b-i-lt32 in
-    let loop_test = c.loop-i-test in
-    let loop = c.loop-i in
-    sym (plain_high _ _ loop_test.true if1.false c.if-b-i-le126.false) ∙ loop.invariant.1
+pub loop-x-preserved : goal.loop-x-preserved
+loop-x-preserved c =
+    let fine = sym c.is_printable.ensures ∙ c.if-not-is_printable.false in
+    sym (plain_more c.args.b.now c.loop-x.x-index c.loop-x-test.true fine) ∙ c.loop-x.invariant
 
 pub returns : goal.returns
-returns c = sym (plain_end _ _ c.loop-i-test.false) ∙ c.loop-i.invariant.1
+returns c = sym (plain_end c.args.b.now c.loop-x.x-index c.loop-x-test.false) ∙ c.loop-x.invariant

@@ -1,13 +1,7 @@
--- Each turn passes one printable byte: the bytes from i on are all printable exactly if all of them are; the bytes left fall.
-
-use mathlib.Core.Path.{◌≡◌}
-use Prim.Native.Nat.{◌-◌, ◌≤◌}
-use lib.ListN.{length, drop}
+-- The bytes from the loop's place on are all printable exactly if all of them are.
+use Rattle.std.proofs.Common.{◌≡◌, drop}
 use Rattle.definition.specs.Lines.{printable}
 use Rattle.image_records.proofs.plain.Given as goal
 
-abbrev pub invariant-loop-i : goal.invariant-loop-i
-invariant-loop-i l = (l.i ≤ length l.b) × (printable (drop l.i l.b) ≡ printable l.b)
-
-abbrev pub decreases-loop-i : goal.decreases-loop-i
-decreases-loop-i l = length l.b - l.i
+abbrev pub invariant-loop-x : goal.invariant-loop-x
+invariant-loop-x l = printable (drop l.x-index l.b) ≡ printable l.b

@@ -1,47 +1,36 @@
--- One case for each tag: the tests so far compute `record_of` to that tag's rule, which the function called promises.
-
-use borrow.Author.Tests.{eq-eqb, ne_eqb}
+-- At each tag `record_of` computes to that tag's rule, which the function called promises.
+use Rattle.std.proofs.Common.{arith}
+use borrow.Author.Tests.{ne_eqb}
 use Rattle.definition.specs.Lines.{record_of}
 use Rattle.image_records.proofs.record_of.Goals as goal
 
-pub returns-then-tag-eq1 : goal.returns-then-tag-eq1
+pub returns-in-1 : goal.returns-in-1
 unfolding record_of
-returns-then-tag-eq1 c = simp (eq-eqb _ _ c.if-tag-eq1.true) c.text_record.ensures
+returns-in-1 c = rw c.in-1.is c.text_record.ensures
 
-pub returns-then-tag-eq2 : goal.returns-then-tag-eq2
+pub returns-in-2 : goal.returns-in-2
 unfolding record_of
-returns-then-tag-eq2 c =
-    let if1 = c.if-tag-eq1 in
-    simp (ne_eqb _ _ if1.false, eq-eqb _ _ c.if-tag-eq2.true) c.chunk_record.ensures
+returns-in-2 c = rw c.in-2.is c.chunk_record.ensures
 
-pub returns-then-tag-eq3 : goal.returns-then-tag-eq3
+pub returns-in-3 : goal.returns-in-3
 unfolding record_of
-returns-then-tag-eq3 c =
-    let if2 = c.if-tag-eq2 in
-    let if1 = c.if-tag-eq1 in
-    simp (ne_eqb _ _ if1.false, ne_eqb _ _ if2.false, eq-eqb _ _ c.if-tag-eq3.true) c.constant_record.ensures
+returns-in-3 c = rw c.in-3.is c.constant_record.ensures
 
-pub returns-then-tag-eq4 : goal.returns-then-tag-eq4
+pub returns-in-4 : goal.returns-in-4
 unfolding record_of
-returns-then-tag-eq4 c =
-    let if3 = c.if-tag-eq3 in
-    let if2 = c.if-tag-eq2 in
-    let if1 = c.if-tag-eq1 in
-    simp (ne_eqb _ _ if1.false, ne_eqb _ _ if2.false, ne_eqb _ _ if3.false, eq-eqb _ _ c.if-tag-eq4.true) c.code_record.ensures
+returns-in-4 c = rw c.in-4.is c.code_record.ensures
 
-pub returns-then-tag-eq5 : goal.returns-then-tag-eq5
+pub returns-in-5 : goal.returns-in-5
 unfolding record_of
-returns-then-tag-eq5 c =
-    let if4 = c.if-tag-eq4 in
-    let if3 = c.if-tag-eq3 in
-    let if2 = c.if-tag-eq2 in
-    let if1 = c.if-tag-eq1 in
-    simp (ne_eqb _ _ if1.false, ne_eqb _ _ if2.false, ne_eqb _ _ if3.false, ne_eqb _ _ if4.false, eq-eqb _ _ c.if-tag-eq5.true) c.end_record.ensures
+returns-in-5 c = rw c.in-5.is c.end_record.ensures
 
-pub returns : goal.returns
+pub returns-in_default : goal.returns-in_default
 unfolding record_of
-returns c =
-    let if3 = c.if-tag-eq3 in
-    let if2 = c.if-tag-eq2 in
-    let if1 = c.if-tag-eq1 in
-    simp (ne_eqb _ _ if1.false, ne_eqb _ _ if2.false, ne_eqb _ _ if3.false, ne_eqb _ _ c.if-tag-eq4.false, ne_eqb _ _ c.if-tag-eq5.false)
+returns-in_default c =
+    simp (
+      ne_eqb c.args.tag 1 (λ e. omega arith),
+      ne_eqb c.args.tag 2 (λ e. omega arith),
+      ne_eqb c.args.tag 3 (λ e. omega arith),
+      ne_eqb c.args.tag 4 (λ e. omega arith),
+      ne_eqb c.args.tag 5 (λ e. omega arith),
+    )

@@ -1,38 +1,51 @@
--- One case for each way out: the tests taken on the way decide those of `digit`, and the bound is arithmetic.
-
+-- One case for each range: the tests of `digit` compute to it.
+use Rattle.std.proofs.Common.{◌≡◌, ℕ, ◌+◌, ◌-◌, ◌≤◌, ◌<◌, arith}
 use borrow.Author.Tests.{le-leb, lt-leb}
-use native.Mathlib.Omega.{arith}
-use Prim.Native.Nat.{◌<◌, ◌≤◌}
 use Rattle.definition.specs.Lines.{digit}
 use Rattle.line_digits.proofs.hex.Goals as goal
-use Rattle.line_digits.proofs.hex.Goals.{then-x-ge48+else-x-le57, else-x-ge48}
 
-pub returns-then-x-le57 : goal.returns-then-x-le57
+decimal : (x : ℕ) → 48 ≤ x → x ≤ 57 → x - 48 ≡ digit x
 unfolding digit
-returns-then-x-le57 c = (simp (le-leb _ _ c.if-x-ge48.true, le-leb _ _ c.if-x-le57.true), omega arith)
+decimal x a b = rw (le-leb 48 x a, le-leb x 57 b)
 
-pub returns-then-x-le70 : goal.returns-then-x-le70
+letter : (x : ℕ) → 65 ≤ x → x ≤ 70 → x - 65 + 10 ≡ digit x
 unfolding digit
-returns-then-x-le70 c =
-    let args = c.args in
-    let f : 48 ≤ args.x = omega arith in
-    let g : 57 < args.x = omega arith in
-    (simp (le-leb _ _ f, lt-leb _ _ g, le-leb _ _ c.if-x-ge65.true, le-leb _ _ c.if-x-le70.true), omega arith)
+letter x a b =
+    let f : 48 ≤ x = omega arith in
+    let g : 57 < x = omega arith in
+    rw (le-leb 48 x f, lt-leb x 57 g, le-leb 65 x a, le-leb x 70 b) (omega arith)
 
-pub returns-else-x-le70 : goal.returns-else-x-le70
+below : (x : ℕ) → x < 48 → 16 ≡ digit x
 unfolding digit
-returns-else-x-le70 c =
-    let args = c.args in
-    let f : 48 ≤ args.x = omega arith in
-    let g : 57 < args.x = omega arith in
-    (simp (le-leb _ _ f, lt-leb _ _ g, le-leb _ _ c.if-x-ge65.true, lt-leb _ _ c.if-x-le70.false), omega arith)
+below x h =
+    let g : x < 65 = omega arith in
+    rw (lt-leb 48 x h, lt-leb 65 x g)
 
-pub returns-else-x-ge65 : goal.returns-else-x-ge65
+between : (x : ℕ) → 57 < x → x < 65 → 16 ≡ digit x
 unfolding digit
-returns-else-x-ge65 c = (
-  elim c.if-x-ge48.branch [
-    | then-x-ge48+else-x-le57 w ↦ simp (le-leb _ _ w.if-x-ge48.true, lt-leb _ _ w.if-x-le57.false, lt-leb _ _ c.if-x-ge65.false)
-    | else-x-ge48 w ↦ simp (lt-leb 48 _ w.if-x-ge48.false, lt-leb _ _ c.if-x-ge65.false)
-  ],
-  omega arith,
-)
+between x g h =
+    let f : 48 ≤ x = omega arith in
+    rw (le-leb 48 x f, lt-leb x 57 g, lt-leb 65 x h)
+
+above : (x : ℕ) → 70 < x → 16 ≡ digit x
+unfolding digit
+above x h =
+    let f : 48 ≤ x = omega arith in
+    let g : 57 < x = omega arith in
+    let k : 65 ≤ x = omega arith in
+    rw (le-leb 48 x f, lt-leb x 57 g, le-leb 65 x k, lt-leb x 70 h)
+
+pub returns-in-48-to-57-clause-says : goal.returns-in-48-to-57-clause-says
+returns-in-48-to-57-clause-says c = decimal c.args.x (omega arith) (omega arith)
+
+pub returns-in-65-to-70-clause-says : goal.returns-in-65-to-70-clause-says
+returns-in-65-to-70-clause-says c = letter c.args.x (omega arith) (omega arith)
+
+pub returns-in_default-clause-says : goal.returns-in_default-clause-says
+returns-in_default-clause-says c = below c.args.x (omega arith)
+
+pub returns-in_default-2-clause-says : goal.returns-in_default-2-clause-says
+returns-in_default-2-clause-says c = between c.args.x (omega arith) (omega arith)
+
+pub returns-in_default-3-clause-says : goal.returns-in_default-3-clause-says
+returns-in_default-3-clause-says c = above c.args.x (omega arith)

@@ -1,16 +1,19 @@
 -- The digits up to the loop's place are decoded into `out`, and the rest of `out` is as it was: so at every way out, on a wrong digit too.
-
-use native.Mathlib.Omega.{arith}
-use mathlib.Core.Path.{refl, ◌∙◌, sym}
-use mathlib.Core.List.{[], ◌∷◌}
-use Prim.Native.Nat.{◌+◌, ◌*◌, ◌<◌}
-use lib.ListN.{length, take, drop, length-set}
+use Rattle.std.proofs.Common.{◌≡◌, ◌+◌, ◌*◌, ◌-◌, ◌/◌, ◌<◌, [], ◌∷◌, length, take, drop, refl, sym, ◌∙◌, arith}
 use lib.Seq.{drop-set-lt}
 use Rattle.definition.specs.Lines.{bytes_of}
-use Rattle.line_digits.proofs.Digits.{pair_left, decode_first, decode_second, decode_more, decode_done, whole, fields_more, line_none, line_some, line_odd, line_long, line_short}
 use Rattle.line_digits.proofs.Digits.{
-  stops_first,
-  stops_second,
+  decode_stops,
+  decode_more,
+  decode_done,
+  whole,
+  fields_more,
+  line_none,
+  line_some,
+  line_odd,
+  line_long,
+  line_short,
+  decodes_stops,
   decodes_more,
   decodes_all,
   decoded_next,
@@ -23,184 +26,100 @@ use Rattle.line_digits.proofs.Digits.{
 }
 use Rattle.line_digits.specs.Fields.{decoded}
 use Rattle.line_digits.proofs.read_line.Goals as goal
-
-pub returns-then-size-lt2 : goal.returns-then-size-lt2
-returns-then-size-lt2 c = record {
-  says = line_short _ c.if-size-lt2.true;
-  fits = tt;
-  behind = λ n h. refl;
-  leaves = writes_short _ _ c.if-size-lt2.true;
+use Rattle.line_digits.proofs.read_line.Goals.{
+  then-many-lt2-via-then-many-lt2,
+  then-many-lt2-via-else-many-lt2+then-many-gt512,
+  then-many-lt2-via-else-many-lt2+else-many-gt512+then-many-eq1,
 }
 
-pub returns-then-size-gt512 : goal.returns-then-size-gt512
-returns-then-size-gt512 c = record {
-  says = line_long _ c.if-size-gt512.true;
-  fits = tt;
-  behind = λ n h. refl;
-  leaves = writes_long _ _ c.if-size-gt512.true;
-}
+pub returns-then-many-lt2-clause-says : goal.returns-then-many-lt2-clause-says
+returns-then-many-lt2-clause-says c =
+    elim c.then-many-lt2.branch [
+      | then-many-lt2-via-then-many-lt2 w ↦ line_short _ w.if-many-lt2.true
+      | then-many-lt2-via-else-many-lt2+then-many-gt512 w ↦ line_long _ w.if-many-gt512.true
+      | then-many-lt2-via-else-many-lt2+else-many-gt512+then-many-eq1 w ↦ line_odd _ w.if-many-eq1.true
+    ]
 
-pub returns-then-size-eq1 : goal.returns-then-size-eq1
-returns-then-size-eq1 c = record {
-  says = line_odd _ c.if-size-eq1.true;
-  fits = tt;
-  behind = λ n h. refl;
-  leaves = writes_odd _ _ c.if-size-eq1.true;
-}
+pub returns-then-many-lt2-clause-leaves : goal.returns-then-many-lt2-clause-leaves
+returns-then-many-lt2-clause-leaves c =
+    elim c.then-many-lt2.branch [
+      | then-many-lt2-via-then-many-lt2 w ↦ writes_short _ _ w.if-many-lt2.true
+      | then-many-lt2-via-else-many-lt2+then-many-gt512 w ↦ writes_long _ _ w.if-many-gt512.true
+      | then-many-lt2-via-else-many-lt2+else-many-gt512+then-many-eq1 w ↦ writes_odd _ _ w.if-many-eq1.true
+    ]
 
-pub returns-then-a-eq16 : goal.returns-then-a-eq16
-returns-then-a-eq16 c =
-    let args2 = c.args in
-    let digits = args2.digits.now in
-    let bad = sym c.hex-a.ensures.0 ∙ c.if-a-eq16.true in record {
-      says = line_none _ (decode_first digits [] 0 (whole _) (omega arith) bad);
-      fits = tt;
+pub returns-in_err-tag-clause-says : goal.returns-in_err-tag-clause-says
+returns-in_err-tag-clause-says c =
+    let digits = c.args.digits.now in
+    let bad = sym c.byte_of.ensures ∙ c.in_err-tag.was in
+    rw c.from_residual.ensures (line_none digits (decode_stops digits [] 0 (whole _) 1 refl (omega arith) bad))
+
+pub returns-in_err-tag-clause-leaves : goal.returns-in_err-tag-clause-leaves
+returns-in_err-tag-clause-leaves c =
+    let bad = sym c.byte_of.ensures ∙ c.in_err-tag.was in
+    writes_none c.args.digits.now _ (decodes_stops c.args.digits.now [] 0 refl 1 refl (omega arith) bad)
+
+pub loop-i-init : goal.loop-i-init
+loop-i-init c =
+    let digits = c.args.digits.now in
+    let good = sym c.byte_of.ensures ∙ c.in_ok-tag.was in
+    record {
+      bytes = decode_more digits [] 0 (whole _) c.in_ok-tag.tag 1 refl (omega arith) good;
+      fields = decodes_more digits [] 0 refl c.in_ok-tag.tag 1 refl (omega arith) good;
       behind = λ n h. refl;
-      leaves = writes_none _ _ (stops_first digits [] 0 refl (omega
-          arith) bad);
+      rest = refl;
     }
 
-pub returns-then-b-eq16 : goal.returns-then-b-eq16
-returns-then-b-eq16 c =
-    let args2 = c.args in
-    let digits = args2.digits.now in
-    let bad = sym c.hex-b.ensures.0 ∙ c.if-b-eq16.true in record {
-      says = line_none _ (decode_second digits [] 0 (whole _) (omega arith) bad);
-      fits = tt;
-      behind = λ n h. refl;
-      leaves = writes_none _ _ (stops_second digits [] 0 refl (omega
-          arith) bad);
+pub returns-in_err-out-clause-says : goal.returns-in_err-out-clause-says
+returns-in_err-out-clause-says c =
+    let loop = c.loop-i in
+    let digits = c.args.digits.now in
+    let bad = sym c.byte_of-in-loop-i.ensures ∙ c.in_err-out.was in
+    rw c.from_residual-in_err-out.ensures
+    (line_none digits (decode_stops digits (c.in_ok-tag.tag ∷ take loop.i loop.out) (2 * loop.i + 2) loop.invariant.bytes (2 * loop.i + 3) (omega arith)
+    (omega arith) bad))
+
+pub returns-in_err-out-clause-leaves : goal.returns-in_err-out-clause-leaves
+returns-in_err-out-clause-leaves c =
+    let loop = c.loop-i in
+    let digits = c.args.digits.now in
+    let bad = sym c.byte_of-in-loop-i.ensures ∙ c.in_err-out.was in
+    writes_fields digits loop.out c.args.out.now c.in_ok-tag.tag loop.i c.if-many-gt512.false c.if-many-eq1.false (omega (arith, c.requires))
+    (decodes_stops digits (c.in_ok-tag.tag ∷ take loop.i loop.out) (2 * loop.i + 2) loop.invariant.fields (2 * loop.i + 3) (omega arith) (omega arith) bad) loop.invariant.rest
+
+pub loop-i-preserved : goal.loop-i-preserved
+loop-i-preserved c =
+    let loop = c.loop-i in
+    let digits = c.args.digits.now in
+    let tag = c.in_ok-tag.tag in
+    let v = c.in_ok-out.field-0 in
+    let p = 2 * loop.i + 2 in
+    let good = sym c.byte_of-in-loop-i.ensures ∙ c.in_ok-out.was in
+    let next : 2 * (loop.i + 1) + 2 ≡ p + 2 = omega arith in
+    let room : loop.i < length loop.out = omega (arith, c.requires) in
+    let so_far = tag ∷ take loop.i loop.out in
+    record {
+      bytes = rw next (fields_more digits loop.out tag loop.i 0 v (bytes_of (drop (p + 2) digits)) room (decode_more digits so_far p loop.invariant.bytes v (2 * loop.i + 3) (omega arith) (omega arith) good));
+      fields = rw next (decoded_next digits loop.out tag loop.i v (decoded (drop (p + 2) digits)) room (decodes_more digits so_far p loop.invariant.fields v (2 * loop.i + 3) (omega arith) (omega arith) good));
+      behind = λ n h. drop-set-lt n loop.out loop.i _ (omega arith) ∙ loop.invariant.behind n h;
+      rest = behind_next loop.out c.args.out.now loop.i v loop.invariant.rest;
     }
 
-pub loop-p-init : goal.loop-p-init
-loop-p-init c =
-    let hex = c.hex-a in
-    let args2 = c.args in
-    let digits = args2.digits.now in
-    let first = hex.ensures.0 in
-    let second = c.hex-b.ensures.0 in (
-      refl,
-      refl,
-      omega arith,
-      decode_more digits [] 0 (whole _) (omega arith) _ _ first second (omega arith) (omega arith),
-      λ n h. refl,
-      decodes_more digits [] 0 refl (omega arith) _ _ first second (omega arith) (omega arith),
-      refl,
-    )
+pub returns-clause-says : goal.returns-clause-says
+returns-clause-says c =
+    let loop = c.loop-i in
+    let digits = c.args.digits.now in
+    let end : loop.i ≡ length digits / 2 - 1 = omega arith in
+    let p = 2 * loop.i + 2 in
+    let done : p ≡ length digits = omega arith in
+    rw (← end) (line_some digits c.in_ok-tag.tag (take loop.i loop.out) c.if-many-gt512.false
+    (decode_done digits (c.in_ok-tag.tag ∷ take loop.i loop.out) p loop.invariant.bytes done))
 
-pub shape_of-out-then-a-eq16-2 : goal.shape_of-out-then-a-eq16-2
-shape_of-out-then-a-eq16-2 c =
-    let loop2 = c.loop-p in
-    loop2.invariant.0
-
-pub returns-then-a-eq16-2 : goal.returns-then-a-eq16-2
-returns-then-a-eq16-2 c =
-    let loop_test = c.loop-p-test in
-    let loop = c.loop-p in
-    let hex2 = c.hex-b in
-    let hex = c.hex-a in
-    let if3 = c.if-size-eq1 in
-    let if2 = c.if-size-gt512 in
-    let args = c.args in
-    let pre = c.requires in
-    let even = if3.false in
-    let two = pair_left (length args.digits.now) loop.i loop.p even loop.invariant.1 loop_test.true in
-    let wrong = sym c.hex-a-in-loop-p.ensures.0 ∙ c.if-a-eq16-2.true in
-    let tag = hex.result * 16 + hex2.result in
-    let so_far = tag ∷ take loop.i loop.out in record {
-      says = line_none _ (decode_first args.digits.now so_far loop.p loop.invariant.3 two wrong);
-      fits = tt;
-      behind = loop.invariant.4;
-      leaves = writes_fields args.digits.now loop.out args.out.now tag loop.i if2.false even (omega (arith, pre))
-          (stops_first args.digits.now so_far loop.p loop.invariant.5 two wrong) loop.invariant.6;
-    }
-
-pub bounds-digits-p-in-loop-p : goal.bounds-digits-p-in-loop-p
-bounds-digits-p-in-loop-p c =
-    let loop_test = c.loop-p-test in
-    let loop2 = c.loop-p in
-    let if3 = c.if-size-eq1 in
-    let args2 = c.args in
-    pair_left (length args2.digits.now) loop2.i loop2.p if3.false loop2.invariant.1 loop_test.true
-
-pub shape_of-out-then-b-eq16-2 : goal.shape_of-out-then-b-eq16-2
-shape_of-out-then-b-eq16-2 c =
-    let loop2 = c.loop-p in
-    loop2.invariant.0
-
-pub returns-then-b-eq16-2 : goal.returns-then-b-eq16-2
-returns-then-b-eq16-2 c =
-    let loop_test = c.loop-p-test in
-    let loop = c.loop-p in
-    let hex2 = c.hex-b in
-    let hex = c.hex-a in
-    let if3 = c.if-size-eq1 in
-    let if2 = c.if-size-gt512 in
-    let args = c.args in
-    let pre = c.requires in
-    let even = if3.false in
-    let two = pair_left (length args.digits.now) loop.i loop.p even loop.invariant.1 loop_test.true in
-    let wrong = sym c.hex-b-in-loop-p.ensures.0 ∙ c.if-b-eq16-2.true in
-    let tag = hex.result * 16 + hex2.result in
-    let so_far = tag ∷ take loop.i loop.out in record {
-      says = line_none _ (decode_second args.digits.now so_far loop.p loop.invariant.3 two wrong);
-      fits = tt;
-      behind = loop.invariant.4;
-      leaves = writes_fields args.digits.now loop.out args.out.now tag loop.i if2.false even (omega (arith, pre))
-          (stops_second args.digits.now so_far loop.p loop.invariant.5 two wrong) loop.invariant.6;
-    }
-
-pub bounds-out-i : goal.bounds-out-i
-bounds-out-i c =
-    let pre = c.requires in
-    omega (arith, pre)
-
-pub loop-p-preserved : goal.loop-p-preserved
-loop-p-preserved c =
-    let hex3 = c.hex-a-in-loop-p in
-    let loop_test = c.loop-p-test in
-    let loop = c.loop-p in
-    let hex2 = c.hex-b in
-    let hex = c.hex-a in
-    let if3 = c.if-size-eq1 in
-    let args = c.args in
-    let pre = c.requires in
-    let two = pair_left (length args.digits.now) loop.i loop.p if3.false loop.invariant.1 loop_test.true in
-    let tag = hex.result * 16 + hex2.result in
-    let byte = hex3.result * 16 + c.hex-b-in-loop-p.result in
-    let first = hex3.ensures.0 in
-    let second = c.hex-b-in-loop-p.ensures.0 in
-    let room : loop.i < length loop.out = omega (arith, pre) in
-    let so_far = tag ∷ take loop.i loop.out in (
-      simp length-set loop.invariant.0,
-      omega arith,
-      omega arith,
-      fields_more args.digits.now loop.out tag loop.i 0 byte (bytes_of (drop (loop.p + 2) args.digits.now)) room
-          (decode_more args.digits.now so_far loop.p loop.invariant.3 two _ _ first second (omega arith) (omega arith)),
-      λ n h. drop-set-lt n loop.out loop.i _ (omega arith) ∙ loop.invariant.4 n h,
-      decoded_next args.digits.now loop.out tag loop.i byte (decoded (drop (loop.p + 2) args.digits.now)) room
-          (decodes_more args.digits.now so_far loop.p loop.invariant.5 two _ _ first second (omega arith) (omega arith)),
-      behind_next loop.out args.out.now loop.i _ loop.invariant.6,
-    )
-
-pub shape_of-out : goal.shape_of-out
-shape_of-out c = c.loop-p.invariant.0
-
-pub returns : goal.returns
-returns c =
-    let hex2 = c.hex-b in
-    let hex = c.hex-a in
-    let if3 = c.if-size-eq1 in
-    let if2 = c.if-size-gt512 in
-    let args = c.args in
-    let pre = c.requires in
-    let loop = c.loop-p in
-    let short = if2.false in
-    let tag = hex.result * 16 + hex2.result in
-    let so_far = tag ∷ take loop.i loop.out in record {
-      says = line_some _ _ _ short (decode_done args.digits.now so_far loop.p loop.invariant.3 (omega arith));
-      fits = (omega (arith, pre), omega arith);
-      behind = loop.invariant.4;
-      leaves = writes_fields args.digits.now loop.out args.out.now tag loop.i short if3.false (omega (arith, pre))
-          (decodes_all args.digits.now so_far loop.p loop.invariant.5 (omega arith)) loop.invariant.6;
-    }
+pub returns-clause-leaves : goal.returns-clause-leaves
+returns-clause-leaves c =
+    let loop = c.loop-i in
+    let digits = c.args.digits.now in
+    let p = 2 * loop.i + 2 in
+    let done : p ≡ length digits = omega arith in
+    writes_fields digits loop.out c.args.out.now c.in_ok-tag.tag loop.i c.if-many-gt512.false c.if-many-eq1.false (omega (arith, c.requires))
+    (decodes_all digits (c.in_ok-tag.tag ∷ take loop.i loop.out) p loop.invariant.fields done) loop.invariant.rest

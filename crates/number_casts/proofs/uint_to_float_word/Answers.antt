@@ -9,4 +9,4 @@ use Rattle.number_casts.proofs.uint_to_float_word.Goals as goal
 pub returns : goal.returns
 returns c =
     let nearest = c.nearest_u64_to_f64 in
-    ap (of_bits binary64) c.word_of_f64.ensures ∙ of_bits-to_bits binary64 nearest.result (search rules) ∙ nearest.ensures
+    ap (of_bits binary64) c.to_word.ensures.word ∙ of_bits-to_bits binary64 nearest.result (search rules) ∙ nearest.ensures

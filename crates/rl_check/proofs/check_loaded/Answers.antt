@@ -31,12 +31,12 @@ check_image-requires c =
     lent pre (length-take-le 4096 args.heights.now pre.heights) (length-take-le 4096 args.depths.now pre.depths) (length-take-le 4096
     args.todo.now pre.todo)
 
-pub returns-in-Pass : goal.returns-in-Pass
-returns-in-Pass c =
+pub returns-in-Ok : goal.returns-in-Ok
+returns-in-Ok c =
     let check_image = c.check_image in
-    passes_judged check_image.result c.in-Pass.is check_image.ensures.answer
+    passes_judged check_image.result c.in-Ok.is check_image.ensures.answer
 
-pub returns-in-Fault : goal.returns-in-Fault
-returns-in-Fault c =
+pub returns-in-Err : goal.returns-in-Err
+returns-in-Err c =
     let check_image = c.check_image in
-    fault_judged check_image.result _ _ _ c.in-Fault.is check_image.ensures.answer
+    fault_judged check_image.result _ c.in-Err.is check_image.ensures.answer

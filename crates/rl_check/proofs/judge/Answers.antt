@@ -39,10 +39,10 @@ check_loaded-requires c =
     let args = c.args in
     ready args.image.now (check_work (slices args.bytes.now args.ends.now args.kinds.now args.payloads.now args.table.now)
     args.heights.now args.depths.now args.todo.now) if1.false if2.false if3.false (slices load.new.bytes load.new.ends
-    load.new.kinds load.new.payloads load.new.table) load.result _ c.in-Loaded.is load.ensures
+    load.new.kinds load.new.payloads load.new.table) load.result _ c.in-Ok.is load.ensures
 
-pub returns-in-Loaded : goal.returns-in-Loaded
-returns-in-Loaded c =
+pub returns-in-Ok : goal.returns-in-Ok
+returns-in-Ok c =
     let check_loaded = c.check_loaded in
     let load = c.load in
     let if3 = c.if-todo-lt-TODO in
@@ -51,11 +51,11 @@ returns-in-Loaded c =
     let args = c.args in
     loaded_checks args.image.now (check_work (slices args.bytes.now args.ends.now args.kinds.now args.payloads.now args.table.now)
     args.heights.now args.depths.now args.todo.now) if1.false if2.false if3.false (slices load.new.bytes load.new.ends
-    load.new.kinds load.new.payloads load.new.table) load.result _ c.in-Loaded.is load.ensures
+    load.new.kinds load.new.payloads load.new.table) load.result _ c.in-Ok.is load.ensures
     check_loaded.result check_loaded.ensures
 
-pub returns-in-Refused : goal.returns-in-Refused
-returns-in-Refused c =
+pub returns-in-Err : goal.returns-in-Err
+returns-in-Err c =
     let load = c.load in
     let if3 = c.if-todo-lt-TODO in
     let if2 = c.if-depths-lt-DEPTHS
@@ -65,4 +65,4 @@ returns-in-Refused c =
     let args = c.args in
     refused_checks args.image.now (check_work (slices args.bytes.now args.ends.now args.kinds.now args.payloads.now args.table.now)
     args.heights.now args.depths.now args.todo.now) if1.false if2.false if3.false (slices load.new.bytes load.new.ends
-    load.new.kinds load.new.payloads load.new.table) load.result _ _ c.in-Refused.is load.ensures
+    load.new.kinds load.new.payloads load.new.table) load.result _ c.in-Err.is load.ensures

@@ -1,23 +1,11 @@
--- The work arrays have the lengths that `run` asks for, so its answer is the definition's for the bytes; `spell` puts its line.
-
+-- The work arrays have the lengths that `run` asks for, so its answer is the definition's for the bytes.
 use borrow.Author.Rules.{rules}
-use Rattle.runner.proofs.Spelling.{spell_asks, says}
+use Rattle.runner.proofs.Spelling.{says}
 use Rattle.runner.proofs.answer_line.Goals as goal
-
-pub spell-requires : goal.spell-requires
-spell-requires c =
-    let run = c.run-a in
-    let args = c.args in
-    let pre = c.requires in
-    spell_asks args.out.now
-    run.ensures.answer
-    (search rules) pre
 
 pub returns : goal.returns
 returns c =
-    let run = c.run-a in
-    let args = c.args in
-    says args.image.now
-    run.ensures.answer
+    says c.args.image.now
+    c.run-answer.ensures.answer
     (search rules) (search rules) (search rules) (search rules) (search rules) (search rules) (search rules) (search rules) (search rules) (search
-    rules) (search rules) (search rules) (search rules) (search rules) c.spell.ensures
+    rules) (search rules) (search rules) (search rules) (search rules)

@@ -11,15 +11,15 @@ node_of-node-requires c =
 
 pub spread-requires : goal.spread-requires
 spread-requires c =
-    let if1 = c.if-meets-eq0 in
+    let if1 = c.if-not-meets in
     let meets2 = c.meets in
     let node_of = c.node_of-node in
     let node = node_here c.requires.3 node_of.ensures in
     let wrong = unfit_wrong c.requires.0 _ c.requires.1 c.requires.2 node (meets2.ensures.not if1.true) in
     (progress_broken c.requires.0 wrong, coming_wrong c.requires.0 _ c.requires.1 c.requires.2 node _ wrong)
 
-pub returns-then-meets-eq0 : goal.returns-then-meets-eq0
-returns-then-meets-eq0 c =
+pub returns-then-not-meets : goal.returns-then-not-meets
+returns-then-not-meets c =
     let spread = c.spread in
     let node_of = c.node_of-node in
     let node = node_here c.requires.3 node_of.ensures in
@@ -29,11 +29,11 @@ pub height_after-h2-requires : goal.height_after-h2-requires
 height_after-h2-requires c =
     let node_of = c.node_of-node in
     let node = node_here c.requires.3 node_of.ensures in
-    change_room c.requires.0 _ c.requires.1 c.requires.2 node (c.meets.ensures.yes c.if-meets-eq0.false).enough (omega (arith, c.well_formed))
+    change_room c.requires.0 _ c.requires.1 c.requires.2 node (c.meets.ensures.yes c.if-not-meets.false).enough (omega (arith, c.well_formed))
 
 pub overflow_sub-d2 : goal.overflow_sub-d2
 overflow_sub-d2 c =
-    let if1 = c.if-meets-eq0 in
+    let if1 = c.if-not-meets in
     let meets2 = c.meets in
     (meets2.ensures.yes if1.false).scoped
 
@@ -56,7 +56,7 @@ pub returns : goal.returns
 returns c =
     let spread2 = c.spread-2 in
     let height_after = c.height_after-h2 in
-    let if1 = c.if-meets-eq0 in
+    let if1 = c.if-not-meets in
     let meets2 = c.meets in
     let node_of = c.node_of-node in
     let node = node_here c.requires.3 node_of.ensures in

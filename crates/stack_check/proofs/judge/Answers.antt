@@ -3,7 +3,6 @@
 
 use native.Mathlib.Omega.{arith}
 use mathlib.Core.Path.{refl, ◌∙◌}
-use lib.ListN.{length-set}
 use Rattle.stack_check.specs.Node.{chunk_of}
 use Rattle.stack_check.proofs.Same.{passes, lowest_to, none_to}
 use Rattle.stack_check.proofs.Theory.{positive, progress_begun, falls, empty_passes, end_fault, no_fault, end_wrong, end_right}
@@ -17,28 +16,28 @@ returns-then-n-eq0 c =
 
 pub bounds-heights-0 : goal.bounds-heights-0
 bounds-heights-0 c =
-    let clear_usize = c.clear_usize in
+    let clear_usize = c.clear in
     let if1 = c.if-n-eq0 in
     let pre = c.requires in
     omega (arith, positive _ if1.false, clear_usize.auto.a, pre.heights)
 
 pub bounds-depths-0 : goal.bounds-depths-0
 bounds-depths-0 c =
-    let clear_usize = c.clear_usize in
+    let clear_usize = c.clear in
     let if1 = c.if-n-eq0 in
     let pre = c.requires in
     omega (arith, positive _ if1.false, clear_usize.auto.a, pre.heights, pre.depths)
 
 pub bounds-todo-0 : goal.bounds-todo-0
 bounds-todo-0 c =
-    let clear_usize = c.clear_usize in
+    let clear_usize = c.clear in
     let if1 = c.if-n-eq0 in
     let pre = c.requires in
     omega (arith, positive _ if1.false, clear_usize.auto.a, pre.heights, pre.todo)
 
 pub loop-s-init : goal.loop-s-init
 loop-s-init c =
-    let clear_usize = c.clear_usize in
+    let clear_usize = c.clear in
     let if1 = c.if-n-eq0 in
     let args = c.args in
     let pre = c.requires in (
@@ -68,79 +67,31 @@ loop-s-preserved c =
     let loop = c.loop-s in
     (step.ensures.0, step.auto.heights ∙ loop.invariant.1, step.auto.depths ∙ loop.invariant.2, step.auto.todo ∙ loop.invariant.3)
 
-pub fault_reason-requires : goal.fault_reason-requires
-fault_reason-requires c =
+pub fault_reason-reason-requires : goal.fault_reason-reason-requires
+fault_reason-reason-requires c =
     let loop = c.loop-s in
     (loop.invariant.0.found c.if-low-n.true).1
-
-pub shape_of-heights-then-low-n : goal.shape_of-heights-then-low-n
-shape_of-heights-then-low-n c =
-    let loop = c.loop-s in
-    let clear_usize = c.clear_usize in
-    loop.invariant.1 ∙ simp length-set clear_usize.auto.a
-
-pub shape_of-depths-then-low-n : goal.shape_of-depths-then-low-n
-shape_of-depths-then-low-n c =
-    let loop = c.loop-s in
-    loop.invariant.2 ∙ simp length-set
-
-pub shape_of-todo-then-low-n : goal.shape_of-todo-then-low-n
-shape_of-todo-then-low-n c =
-    let loop = c.loop-s in
-    loop.invariant.3 ∙ simp length-set
 
 pub returns-then-low-n : goal.returns-then-low-n
 returns-then-low-n c =
     let if2 = c.loop-s-test in
     let loop = c.loop-s in
     let args = c.args in
-    lowest_to (chunk_of args.code.now args.kinds.now) _ _ (end_fault loop.invariant.0 if2.false _ c.fault_reason.ensures c.if-low-n.true)
+    lowest_to (chunk_of args.code.now args.kinds.now) _ _ (end_fault loop.invariant.0 if2.false _ c.fault_reason-reason.ensures c.if-low-n.true)
 
-pub shape_of-heights-then-s-eq0 : goal.shape_of-heights-then-s-eq0
-shape_of-heights-then-s-eq0 c =
-    let loop = c.loop-s in
-    let clear_usize = c.clear_usize in
-    loop.invariant.1 ∙ simp length-set clear_usize.auto.a
-
-pub shape_of-depths-then-s-eq0 : goal.shape_of-depths-then-s-eq0
-shape_of-depths-then-s-eq0 c =
-    let loop = c.loop-s in
-    loop.invariant.2 ∙ simp length-set
-
-pub shape_of-todo-then-s-eq0 : goal.shape_of-todo-then-s-eq0
-shape_of-todo-then-s-eq0 c =
-    let loop = c.loop-s in
-    loop.invariant.3 ∙ simp length-set
-
-pub returns-then-s-eq0 : goal.returns-then-s-eq0
-returns-then-s-eq0 c =
+pub returns-else-s : goal.returns-else-s
+returns-else-s c =
     let if3 = c.if-low-n in
     let if2 = c.loop-s-test in
     let loop = c.loop-s in
     let args = c.args in
     passes (chunk_of args.code.now args.kinds.now) (no_fault loop.invariant.0 if2.false if3.false) _ _ (end_right loop.invariant.0 if2.false
-    c.if-s-eq0.true)
+    c.if-s.false)
 
-pub shape_of-heights-else-s-eq0 : goal.shape_of-heights-else-s-eq0
-shape_of-heights-else-s-eq0 c =
-    let loop = c.loop-s in
-    let clear_usize = c.clear_usize in
-    loop.invariant.1 ∙ simp length-set clear_usize.auto.a
-
-pub shape_of-depths-else-s-eq0 : goal.shape_of-depths-else-s-eq0
-shape_of-depths-else-s-eq0 c =
-    let loop = c.loop-s in
-    loop.invariant.2 ∙ simp length-set
-
-pub shape_of-todo-else-s-eq0 : goal.shape_of-todo-else-s-eq0
-shape_of-todo-else-s-eq0 c =
-    let loop = c.loop-s in
-    loop.invariant.3 ∙ simp length-set
-
-pub returns-else-s-eq0 : goal.returns-else-s-eq0
-returns-else-s-eq0 c =
+pub returns-then-s : goal.returns-then-s
+returns-then-s c =
     let if3 = c.if-low-n in
     let if2 = c.loop-s-test in
     let loop = c.loop-s in
     let args = c.args in
-    none_to (chunk_of args.code.now args.kinds.now) (no_fault loop.invariant.0 if2.false if3.false) (end_wrong loop.invariant.0 if2.false c.if-s-eq0.false)
+    none_to (chunk_of args.code.now args.kinds.now) (no_fault loop.invariant.0 if2.false if3.false) (end_wrong loop.invariant.0 if2.false c.if-s.true)

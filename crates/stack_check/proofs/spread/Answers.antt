@@ -1,25 +1,26 @@
 -- Nothing comes after an instruction that ends; else the two visits arrive at all that comes after, and the second keeps what the first noted.
 
-use mathlib.Core.Path.{refl}
+use mathlib.Core.Path.{refl, sym, ◌∙◌}
+use Rattle.definition.proofs.Judged.{true_not_false}
 use Rattle.stack_check.proofs.Theory.{coming_later, spread_two, kept_refl}
 use mathlib.Core.Logic.{inl, inr}
 use Rattle.stack_check.proofs.spread.Goals as goal
 
-pub returns-then-node-ne0 : goal.returns-then-node-ne0
-returns-then-node-ne0 c =
+pub returns-then-node : goal.returns-then-node
+returns-then-node c =
     let pre = c.requires in
-    record { progress = pre.0; kept = kept_refl _ _ _ _; arrived = λ t g. absurd (c.if-node-ne0.true g.0) }
+    record { progress = pre.0; kept = kept_refl _ _ _ _; arrived = λ t g. true_not_false (sym c.if-node.true ∙ g.0) }
 
 pub visit-s1-requires : goal.visit-s1-requires
 visit-s1-requires c =
-    let if1 = c.if-node-ne0 in
+    let if1 = c.if-node in
     let pre = c.requires in
     (pre.0, pre.1 _ (if1.false, inl refl))
 
 pub visit-requires : goal.visit-requires
 visit-requires c =
     let visit = c.visit-s1 in
-    let if1 = c.if-node-ne0 in
+    let if1 = c.if-node in
     let pre = c.requires
     in
     (visit.ensures.progress, coming_later (visit.ensures.kept.grows) (pre.1 _ (if1.false, inr refl)))

@@ -48,8 +48,8 @@ overflow_add-result-in-Ok c =
     in
     omega (arith, pre.0.room, pre.0.order, pre.1, good)
 
-pub returns : goal.returns
-returns c =
+pub returns-in-Ok : goal.returns-in-Ok
+returns-in-Ok c =
     let handle = c.handle-r in
     let inspect = c.inspect in
     let args = c.args

@@ -19,8 +19,8 @@ returns-else-h-eq0 c =
     let pre = c.requires in
     visit_wrong pre.0 _ _ _ (λ m. absurd (apart m c.if-code-to.true)) (wrong_end pre.0 _ _ _ pre.1 c.if-code-to.true c.if-h-eq0.false)
 
-pub bounds-todo-tail : goal.bounds-todo-tail
-bounds-todo-tail c =
+pub bounds-todo-s : goal.bounds-todo-s
+bounds-todo-s c =
     let if1 = c.if-code-to in
     let pre = c.requires in
     let r = room_left pre.0 _ _ _ pre.1 if1.false c.if-heights-to-eq0.true in omega (arith, pre.0.long_todo)

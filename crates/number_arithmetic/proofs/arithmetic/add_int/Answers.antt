@@ -1,5 +1,5 @@
 -- By the law of every kind with a sign.
-use Rattle.std.proofs.Common.{◌≡◌, refl, ◌+ℤ◌, w64, to_z, of_z, to_z-of_z}
+use Rattle.std.proofs.Common.{refl, ◌+ℤ◌, w64, to_z-of_z}
 use Rattle.numbers.specs.declared.IntKind.TheVariants.{I64}
 use Rattle.number_arithmetic.proofs.Checked.{some, none}
 use Rattle.number_arithmetic.proofs.arithmetic.add_int.Goals as goal

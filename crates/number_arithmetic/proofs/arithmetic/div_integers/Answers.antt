@@ -1,5 +1,5 @@
 -- The quotient of the magnitudes truncates.
-use Rattle.std.proofs.Common.{◌≡◌, sym, ap, ◌∙◌, ℕ, arith}
+use Rattle.std.proofs.Common.{sym, ap, ◌∙◌, ℕ, arith}
 use lib.Ieee.{unlike}
 use Rattle.numbers.specs.Arithmetic.{checked}
 use Rattle.number_operands.specs.Operands.{value_of}

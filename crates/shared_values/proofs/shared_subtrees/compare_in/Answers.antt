@@ -32,7 +32,7 @@ pub equal-requires : goal.equal-requires
 equal-requires c =
     let nest2 = c.nest-in-At in
     let nest3 = c.nest in
-    let clear_u16 = c.clear_u16
+    let clear_u16 = c.clear
     in
     let if2 = c.if-memo-lt4096
     in
