@@ -7,8 +7,9 @@ ghost use Rattle.std.specs.Bool.{OnTrue};
 ghost use Rattle.std.specs.Io.KnownBytes.{Appends};
 ghost use Rattle.definition.specs.Runner.{ascii, decimal, padded, hex, words};
 
+use arrayvec::ArrayString;
 use std::fmt;
-use std::fmt::{Display, Formatter};
+use std::fmt::{Display, Formatter, Write as TextWrite};
 use std::io::Write;
 
 // Bytes in upper-case hexadecimal, two digits each.
@@ -58,7 +59,10 @@ impl Display for RefusedLine {
     }
 }
 
-// Writes a line to the output, and answers whether it took the line. Where it did not, that is said on `errors`, behind the program's name.
+// The longest line has this many bytes at most: that of a value of 4,096 bytes, two digits each, behind its count.
+const LONGEST_LINE: usize = 8224;
+
+// Writes a line to the output, whole and by one write, so that two programs that share an output do not mix their lines, and answers whether it took the line. Where it did not, that is said on `errors`, behind the program's name.
 pub fn write_line<W: Write, E: Write, D: Display + Drop>(
     output: &mut W,
     errors: &mut E,
@@ -67,7 +71,8 @@ pub fn write_line<W: Write, E: Write, D: Display + Drop>(
 ) -> bool
     ensures { OnTrue result (IfSome (D.output line) (Appends (W.contents output.old) (W.contents output.new))) }
 {
-    if write!(output, "{line}").is_ok() {
+    let mut text = ArrayString::<LONGEST_LINE>::new();
+    if write!(text, "{line}").is_ok() && output.write_all(text.as_bytes()).is_ok() {
         return true;
     }
     let _ = writeln!(errors, "{name}: the line could not be written");

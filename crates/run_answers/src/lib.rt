@@ -14,8 +14,8 @@ pub use run_numbers::{
     run_chunk, run_count, run_length, run_line, run_number, run_offset, stop_number,
 };
 use value_coding::{Coded, code_value};
-use vm_acts::StopReason;
-use vm_logic::RunEnd;
+use vm_acts::{StopReason, Stopped};
+use vm_logic::RunValue;
 
 // What `run` answers: a refusal with its line; a value, with the count of instructions begun and the length of its coding; or a stop with its
 // place. specs/Run.antt, `answer_of`, gives document 01's number of each.
@@ -95,16 +95,18 @@ pub fn clear_run(
 }
 
 // What a run that ended answers: its value coded into the result slice, if it fits there, or its stop.
-pub fn code_end(end: RunEnd, cells: &[u64], res: &mut [u8]) -> RunAnswer
+pub fn code_end(end: Result<RunValue, Stopped>, cells: &[u64], res: &mut [u8]) -> RunAnswer
     requires { EndHeld end cells.now }
     ensures { Ended end cells.now res.old res.new result }
 {
     match end {
-        RunEnd::Value {
-            value,
-            cells: taken,
-            count,
-        } => match code_value(cells, taken, value, res) {
+        Ok(
+            RunValue {
+                value,
+                cells: taken,
+                count,
+            },
+        ) => match code_value(cells, taken, value, res) {
             Coded::Bytes(length) => RunAnswer::Value { count, length },
             Coded::TooLong => RunAnswer::Stop {
                 reason: StopReason::ResultTooLong,
@@ -113,12 +115,14 @@ pub fn code_end(end: RunEnd, cells: &[u64], res: &mut [u8]) -> RunAnswer
                 offset: 0,
             },
         },
-        RunEnd::Stop {
-            reason,
-            count,
-            chunk,
-            offset,
-        } => RunAnswer::Stop {
+        Err(
+            Stopped {
+                reason,
+                count,
+                chunk,
+                offset,
+            },
+        ) => RunAnswer::Stop {
             reason,
             count,
             chunk,

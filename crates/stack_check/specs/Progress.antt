@@ -67,6 +67,7 @@ pub record SearchKept (hs ds ts hs' ds' ts' : List ℕ) (s s' : Search) : Type 0
   pub heights : (o : ℕ) → 0 < get_or hs o 0 → get_or hs' o 0 ≡ get_or hs o 0
   pub depths : (o : ℕ) → 0 < get_or hs o 0 → get_or ds' o 0 ≡ get_or ds o 0
   pub todo : (j : ℕ) → j < s.tail → get_or ts' j 0 ≡ get_or ts j 0
+  pub long : length hs' ≡ length hs
   pub grows : s.tail ≤ s'.tail
   pub worse : s'.bad ≡ false → s.bad ≡ false
   pub head : s'.head ≡ s.head

@@ -1,7 +1,7 @@
 // The stack check of one chunk and of an image (document 01, "The stack check").
 #![tactic(auto)]
 
-ghost use Rattle.std.specs.Prelude.{◌≡◌, ℕ, ◌+◌, ◌-◌, ◌^◌, ◌<◌, length};
+ghost use Rattle.std.specs.Prelude.{◌≡◌, ℕ, ◌+◌, ◌-◌, ◌^◌, ◌≤◌, ◌<◌, length};
 ghost use Rattle.definition.specs.Decode.{fault};
 ghost use Rattle.stack_check.specs.Node.{flow_effect, first_of, second_of, Drawn, NodeIs, Here, chunk_of};
 ghost use Rattle.stack_check.specs.Flat.{Goes, Changeable, height_after};
@@ -205,135 +205,140 @@ fn meets(node: Node, h: usize, d: usize) -> bool
     if node.exact { h == node.need } else { true }
 }
 
-// Control comes to `to` with height h and depth d.
-fn visit(
-    code: &[u8],
-    kinds: &[u8],
-    heights: &mut [usize],
-    depths: &mut [usize],
-    todo: &mut [usize],
-    s: Search,
-    to: usize,
-    h: usize,
-    d: usize,
-) -> Search
-    requires { Progress (chunk_of code.now kinds.now) heights.old depths.old todo.old s × Coming (chunk_of code.now kinds.now) s.tail to h d }
-    ensures { Visited (chunk_of code.now kinds.now) heights.old depths.old todo.old heights.new depths.new todo.new s result to h d }
-{
-    let broken = Search { bad: true, ..s };
-    if code.len() <= to {
-        if h == 0 {
-            return s;
-        } else {
-            return broken;
-        }
-    }
-    if heights[to] == 0 {
-        heights[to] = h + 1;
-        depths[to] = d;
-        todo[s.tail] = to;
-        return Search {
-            tail: s.tail + 1,
-            ..s
-        };
-    }
-    if heights[to] == h + 1 {
-        if depths[to] == d {
-            return s;
-        } else {
-            return broken;
-        }
-    }
-    broken
+// What the search works with: at each offset that control came to the height and one more, and the depth; and the list of these offsets.
+#[derive(Drop)]
+struct Work<'a> {
+    heights: &'a mut [usize],
+    depths: &'a mut [usize],
+    todo: &'a mut [usize],
 }
 
-// Control comes to what comes after an instruction, with height h and depth d.
-fn spread(
-    code: &[u8],
-    kinds: &[u8],
-    heights: &mut [usize],
-    depths: &mut [usize],
-    todo: &mut [usize],
-    s: Search,
-    node: Node,
-    h: usize,
-    d: usize,
-) -> Search
-    requires { Progress (chunk_of code.now kinds.now) heights.old depths.old todo.old s × ((t : ℕ) → Goes node t → Coming (chunk_of code.now kinds.now) s.tail t h d) }
-    ensures { Spread (chunk_of code.now kinds.now) heights.old depths.old todo.old heights.new depths.new todo.new s result node h d }
-{
-    if node.ends {
-        return s;
-    }
-    let first = node.first;
-    let second = node.second;
-    let s1 = visit(code, kinds, heights, depths, todo, s, first, h, d);
-    visit(code, kinds, heights, depths, todo, s1, second, h, d)
-}
-
-// Handles the instruction at `at`, which has no fault.
-fn handle(
-    code: &[u8],
-    kinds: &[u8],
-    heights: &mut [usize],
-    depths: &mut [usize],
-    todo: &mut [usize],
-    s: Search,
-    at: usize,
-    i: Instr,
-) -> Search
-    requires { Progress (chunk_of code.now kinds.now) heights.old depths.old todo.old s × Listed (chunk_of code.now kinds.now) heights.old at × (fault (chunk_of code.now kinds.now) at ≡ 0) × Here (chunk_of code.now kinds.now) at i }
-    ensures { Handling (chunk_of code.now kinds.now) heights.old depths.old todo.old heights.new depths.new todo.new s result at }
-{
-    let node = node_of(i);
-    let h = heights[at] - 1;
-    let d = depths[at];
-    if !meets(node, h, d) {
+impl<'a> Work<'a> {
+    // Control comes to `to` with height h and depth d.
+    fn visit(
+        &mut self,
+        code: &[u8],
+        kinds: &[u8],
+        s: Search,
+        to: usize,
+        h: usize,
+        d: usize,
+    ) -> Search
+        requires { Progress (chunk_of code.now kinds.now) self.old.heights.now self.old.depths.now self.old.todo.now s × Coming (chunk_of code.now kinds.now) s.tail to h d }
+        ensures { Visited (chunk_of code.now kinds.now) self.old.heights.now self.old.depths.now self.old.todo.now self.new.heights.now self.new.depths.now self.new.todo.now s result to h d }
+    {
         let broken = Search { bad: true, ..s };
-        return spread(code, kinds, heights, depths, todo, broken, node, 0, 0);
-    }
-    let h2 = height_after(node, h);
-    let d2 = d - node.drops + node.opens;
-    spread(code, kinds, heights, depths, todo, s, node, h2, d2)
-}
-
-// Handles the next offset that waits.
-fn step(
-    code: &[u8],
-    kinds: &[u8],
-    heights: &mut [usize],
-    depths: &mut [usize],
-    todo: &mut [usize],
-    s: Search,
-) -> Search
-    requires { Progress (chunk_of code.now kinds.now) heights.old depths.old todo.old s × (s.head < s.tail) }
-    ensures { Progress (chunk_of code.now kinds.now) heights.new depths.new todo.new result × (result.head ≡ s.head + 1) }
-{
-    let head = s.head;
-    let at = todo[head];
-    let low = s.low;
-    match chunk::inspect(code, kinds, at) {
-        Err(_) => {
-            if at < low {
-                Search {
-                    head: head + 1,
-                    low: at,
-                    ..s
-                }
+        if code.len() <= to {
+            if h == 0 {
+                return s;
             } else {
+                return broken;
+            }
+        }
+        if self.heights[to] == 0 {
+            self.heights[to] = h + 1;
+            self.depths[to] = d;
+            self.todo[s.tail] = to;
+            return Search {
+                tail: s.tail + 1,
+                ..s
+            };
+        }
+        if self.heights[to] == h + 1 {
+            if self.depths[to] == d {
+                return s;
+            } else {
+                return broken;
+            }
+        }
+        broken
+    }
+
+    // Control comes to what comes after an instruction, with height h and depth d.
+    fn spread(
+        &mut self,
+        code: &[u8],
+        kinds: &[u8],
+        s: Search,
+        node: Node,
+        h: usize,
+        d: usize,
+    ) -> Search
+        requires { Progress (chunk_of code.now kinds.now) self.old.heights.now self.old.depths.now self.old.todo.now s × ((t : ℕ) → Goes node t → Coming (chunk_of code.now kinds.now) s.tail t h d) }
+        ensures { Spread (chunk_of code.now kinds.now) self.old.heights.now self.old.depths.now self.old.todo.now self.new.heights.now self.new.depths.now self.new.todo.now s result node h d }
+    {
+        if node.ends {
+            return s;
+        }
+        let first = node.first;
+        let second = node.second;
+        let s1 = self.visit(code, kinds, s, first, h, d);
+        self.visit(code, kinds, s1, second, h, d)
+    }
+
+    // Handles the instruction at `at`, which has no fault.
+    fn handle(&mut self, code: &[u8], kinds: &[u8], s: Search, at: usize, i: Instr) -> Search
+        requires { Progress (chunk_of code.now kinds.now) self.old.heights.now self.old.depths.now self.old.todo.now s × Listed (chunk_of code.now kinds.now) self.old.heights.now at × (fault (chunk_of code.now kinds.now) at ≡ 0) × Here (chunk_of code.now kinds.now) at i }
+        ensures { Handling (chunk_of code.now kinds.now) self.old.heights.now self.old.depths.now self.old.todo.now self.new.heights.now self.new.depths.now self.new.todo.now s result at }
+    {
+        let node = node_of(i);
+        let h = self.heights[at] - 1;
+        let d = self.depths[at];
+        if !meets(node, h, d) {
+            let broken = Search { bad: true, ..s };
+            return self.spread(code, kinds, broken, node, 0, 0);
+        }
+        let h2 = height_after(node, h);
+        let d2 = d - node.drops + node.opens;
+        self.spread(code, kinds, s, node, h2, d2)
+    }
+
+    // Handles the next offset that waits.
+    fn step(&mut self, code: &[u8], kinds: &[u8], s: Search) -> Search
+        requires { Progress (chunk_of code.now kinds.now) self.old.heights.now self.old.depths.now self.old.todo.now s × (s.head < s.tail) }
+        ensures progress { Progress (chunk_of code.now kinds.now) self.new.heights.now self.new.depths.now self.new.todo.now result }
+        ensures onward { result.head ≡ s.head + 1 }
+        ensures long { length self.new.heights.now ≡ length self.old.heights.now }
+    {
+        let head = s.head;
+        let at = self.todo[head];
+        let low = s.low;
+        match chunk::inspect(code, kinds, at) {
+            Err(_) => {
+                if at < low {
+                    Search {
+                        head: head + 1,
+                        low: at,
+                        ..s
+                    }
+                } else {
+                    Search {
+                        head: head + 1,
+                        ..s
+                    }
+                }
+            }
+            Ok(i) => {
+                let r = self.handle(code, kinds, s, at, i);
                 Search {
                     head: head + 1,
-                    ..s
+                    ..r
                 }
             }
         }
-        Ok(i) => {
-            let r = handle(code, kinds, heights, depths, todo, s, at, i);
-            Search {
-                head: head + 1,
-                ..r
-            }
+    }
+
+    // Handles one offset after another, until none waits.
+    fn search(&mut self, code: &[u8], kinds: &[u8], begun: Search) -> Search
+        requires { Progress (chunk_of code.now kinds.now) self.old.heights.now self.old.depths.now self.old.todo.now begun }
+        ensures progress { Progress (chunk_of code.now kinds.now) self.new.heights.now self.new.depths.now self.new.todo.now result }
+        ensures ended { result.tail ≤ result.head }
+    {
+        let mut s = begun;
+        while s.head < s.tail {
+            s = self.step(code, kinds, s);
         }
+        s
     }
 }
 
@@ -367,15 +372,18 @@ fn judge(
     heights[0] = 1;
     depths[0] = 0;
     todo[0] = 0;
-    let mut s = Search {
+    let begun = Search {
         head: 0,
         tail: 1,
         low: n,
         bad: false,
     };
-    while s.head < s.tail {
-        s = step(code, kinds, heights, depths, todo, s);
-    }
+    let mut work = Work {
+        heights,
+        depths,
+        todo,
+    };
+    let s = work.search(code, kinds, begun);
     let low = s.low;
     if low < n {
         let reason = fault_reason(code, kinds, low);

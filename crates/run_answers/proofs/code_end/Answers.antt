@@ -7,7 +7,7 @@ pub code_value-requires : goal.code_value-requires
 code_value-requires c =
     let args = c.args in
     let pre = c.requires in
-    value_held args.end args.cells.now _ _ _ c.in-Value.is pre
+    value_held args.end args.cells.now _ c.in-Ok.is pre
 
 pub shape_of-res-in-Bytes : goal.shape_of-res-in-Bytes
 shape_of-res-in-Bytes c =
@@ -18,7 +18,7 @@ pub returns-in-Bytes : goal.returns-in-Bytes
 returns-in-Bytes c =
     let code_value = c.code_value in
     let args = c.args in
-    ended_as args.end _ args.cells.now args.res.now code_value.new.out _ c.in-Value.is (value_ends args.cells.now
+    ended_as args.end _ args.cells.now args.res.now code_value.new.out _ c.in-Ok.is (value_ends args.cells.now
     args.res.now code_value.new.out _ _ _ code_value.result _ c.in-Bytes.is code_value.ensures)
 
 pub shape_of-res-in-TooLong : goal.shape_of-res-in-TooLong
@@ -30,11 +30,11 @@ pub returns-in-TooLong : goal.returns-in-TooLong
 returns-in-TooLong c =
     let code_value = c.code_value in
     let args = c.args in
-    ended_as args.end _ args.cells.now args.res.now code_value.new.out _ c.in-Value.is (long_ends args.cells.now args.res.now
+    ended_as args.end _ args.cells.now args.res.now code_value.new.out _ c.in-Ok.is (long_ends args.cells.now args.res.now
     code_value.new.out _ _ _ code_value.result c.in-TooLong.is code_value.ensures)
 
-pub returns-in-Stop : goal.returns-in-Stop
-returns-in-Stop c =
+pub returns-in-Err : goal.returns-in-Err
+returns-in-Err c =
     let args = c.args in
-    ended_as args.end _ args.cells.now args.res.now args.res.now _ c.in-Stop.is (stop_ends args.cells.now
-    args.res.now _ _ _ _)
+    ended_as args.end _ args.cells.now args.res.now args.res.now _ c.in-Err.is (stop_ends args.cells.now
+    args.res.now _)

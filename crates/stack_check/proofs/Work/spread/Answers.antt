@@ -4,7 +4,7 @@ use mathlib.Core.Path.{refl, sym, ◌∙◌}
 use Rattle.definition.proofs.Judged.{true_not_false}
 use Rattle.stack_check.proofs.Theory.{coming_later, spread_two, kept_refl}
 use mathlib.Core.Logic.{inl, inr}
-use Rattle.stack_check.proofs.spread.Goals as goal
+use Rattle.stack_check.proofs.Work.spread.Goals as goal
 
 pub returns-then-node : goal.returns-then-node
 returns-then-node c =

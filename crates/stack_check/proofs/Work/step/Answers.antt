@@ -6,27 +6,23 @@ use Rattle.stack_check.proofs.Nodes.{kinds_back}
 use Rattle.stack_check.proofs.Found.{is_faulty, is_clean, is_here}
 use Rattle.stack_check.specs.Node.{chunk_of}
 use Rattle.stack_check.proofs.Theory.{step_lower, step_higher, step_handled}
-use Rattle.stack_check.proofs.step.Goals as goal
+use Rattle.stack_check.proofs.Work.step.Goals as goal
 
-pub returns-then-at-low : goal.returns-then-at-low
-returns-then-at-low c =
+pub returns-then-at-low-clause-progress : goal.returns-then-at-low-clause-progress
+returns-then-at-low-clause-progress c =
     let inspect = c.inspect in
     let args = c.args in
-    let pre = c.requires in (
-      step_lower pre.0 pre.1 _ refl (is_faulty (inspect.ensures (chunk_of args.code.now args.kinds.now) refl (kinds_back args.kinds.now))
-          c.in-Err.is) c.if-at-low.true,
-      refl,
-    )
+    let pre = c.requires in
+    step_lower pre.0 pre.1 _ refl (is_faulty (inspect.ensures (chunk_of args.code.now args.kinds.now) refl (kinds_back args.kinds.now)) c.in-Err.is)
+    c.if-at-low.true
 
-pub returns-else-at-low : goal.returns-else-at-low
-returns-else-at-low c =
+pub returns-else-at-low-clause-progress : goal.returns-else-at-low-clause-progress
+returns-else-at-low-clause-progress c =
     let inspect = c.inspect in
     let args = c.args in
-    let pre = c.requires in (
-      step_higher pre.0 pre.1 _ refl (is_faulty (inspect.ensures (chunk_of args.code.now args.kinds.now) refl (kinds_back args.kinds.now))
-          c.in-Err.is) c.if-at-low.false,
-      refl,
-    )
+    let pre = c.requires in
+    step_higher pre.0 pre.1 _ refl (is_faulty (inspect.ensures (chunk_of args.code.now args.kinds.now) refl (kinds_back args.kinds.now)) c.in-Err.is)
+    c.if-at-low.false
 
 pub handle-r-requires : goal.handle-r-requires
 handle-r-requires c =
@@ -48,15 +44,12 @@ overflow_add-result-in-Ok c =
     in
     omega (arith, pre.0.room, pre.0.order, pre.1, good)
 
-pub returns-in-Ok : goal.returns-in-Ok
-returns-in-Ok c =
-    let handle = c.handle-r in
+pub returns-in-Ok-clause-progress : goal.returns-in-Ok-clause-progress
+returns-in-Ok-clause-progress c =
     let inspect = c.inspect in
-    let args = c.args
-    in
-    let pre = c.requires
-    in (
-      step_handled pre.1 (is_clean (inspect.ensures (chunk_of args.code.now args.kinds.now) refl (kinds_back args.kinds.now)) c.in-Ok.is)
-          handle.ensures,
-      refl,
-    )
+    let args = c.args in
+    step_handled c.requires.1 (is_clean (inspect.ensures (chunk_of args.code.now args.kinds.now) refl (kinds_back args.kinds.now)) c.in-Ok.is)
+    c.handle-r.ensures
+
+pub returns-in-Ok-clause-long : goal.returns-in-Ok-clause-long
+returns-in-Ok-clause-long c = c.handle-r.ensures.kept.long

@@ -3,7 +3,7 @@
 use native.Mathlib.Omega.{arith}
 use Rattle.stack_check.proofs.Found.{drawn, node_here}
 use Rattle.stack_check.proofs.Theory.{progress_broken, unfit_wrong, coming_wrong, coming_right, change_room, depth_small, tail_small, handling_right, handling_wrong}
-use Rattle.stack_check.proofs.handle.Goals as goal
+use Rattle.stack_check.proofs.Work.handle.Goals as goal
 
 pub node_of-node-requires : goal.node_of-node-requires
 node_of-node-requires c =

@@ -4,7 +4,7 @@
 use native.Mathlib.Omega.{arith}
 use Prim.Native.Nat.{ℕ, ◌≤◌, ◌<◌}
 use Rattle.stack_check.proofs.Theory.{positive, visit_past, visit_wrong, visit_new, visit_same, room_left, wrong_end, wrong_height, wrong_depth}
-use Rattle.stack_check.proofs.visit.Goals as goal
+use Rattle.stack_check.proofs.Work.visit.Goals as goal
 
 apart : {a b : ℕ} → a < b → b ≤ a → ⊥
 apart x y = omega arith
@@ -19,35 +19,35 @@ returns-else-h-eq0 c =
     let pre = c.requires in
     visit_wrong pre.0 _ _ _ (λ m. absurd (apart m c.if-code-to.true)) (wrong_end pre.0 _ _ _ pre.1 c.if-code-to.true c.if-h-eq0.false)
 
-pub bounds-todo-s : goal.bounds-todo-s
-bounds-todo-s c =
+pub bounds-self-s : goal.bounds-self-s
+bounds-self-s c =
     let if1 = c.if-code-to in
     let pre = c.requires in
-    let r = room_left pre.0 _ _ _ pre.1 if1.false c.if-heights-to-eq0.true in omega (arith, pre.0.long_todo)
+    let r = room_left pre.0 _ _ _ pre.1 if1.false c.if-self-to-eq0.true in omega (arith, pre.0.long_todo)
 
-pub returns-then-heights-to-eq0 : goal.returns-then-heights-to-eq0
-returns-then-heights-to-eq0 c =
+pub returns-then-self-to-eq0 : goal.returns-then-self-to-eq0
+returns-then-self-to-eq0 c =
     let if1 = c.if-code-to in
     let pre = c.requires in
-    visit_new pre.0 _ _ _ pre.1 if1.false c.if-heights-to-eq0.true
+    visit_new pre.0 _ _ _ pre.1 if1.false c.if-self-to-eq0.true
 
-pub returns-then-depths-to : goal.returns-then-depths-to
-returns-then-depths-to c =
-    let if4 = c.if-heights-to in
+pub returns-then-self-to-2 : goal.returns-then-self-to-2
+returns-then-self-to-2 c =
+    let if4 = c.if-self-to in
     let if1 = c.if-code-to in
     let pre = c.requires in
-    visit_same pre.0 _ _ _ if1.false if4.true c.if-depths-to.true
+    visit_same pre.0 _ _ _ if1.false if4.true c.if-self-to-2.true
 
-pub returns-else-depths-to : goal.returns-else-depths-to
-returns-else-depths-to c =
-    let if3 = c.if-heights-to-eq0 in
+pub returns-else-self-to-2 : goal.returns-else-self-to-2
+returns-else-self-to-2 c =
+    let if3 = c.if-self-to-eq0 in
     let if1 = c.if-code-to in
     let pre = c.requires in
-    visit_wrong pre.0 _ _ _ (λ m. positive _ if3.false) (wrong_depth pre.0 _ _ _ pre.1 if1.false (positive _ if3.false) c.if-depths-to.false)
+    visit_wrong pre.0 _ _ _ (λ m. positive _ if3.false) (wrong_depth pre.0 _ _ _ pre.1 if1.false (positive _ if3.false) c.if-self-to-2.false)
 
 pub returns : goal.returns
 returns c =
-    let if3 = c.if-heights-to-eq0 in
+    let if3 = c.if-self-to-eq0 in
     let if1 = c.if-code-to in
     let pre = c.requires in
-    visit_wrong pre.0 _ _ _ (λ m. positive _ if3.false) (wrong_height pre.0 _ _ _ pre.1 if1.false (positive _ if3.false) c.if-heights-to.false)
+    visit_wrong pre.0 _ _ _ (λ m. positive _ if3.false) (wrong_height pre.0 _ _ _ pre.1 if1.false (positive _ if3.false) c.if-self-to.false)
