@@ -6,7 +6,6 @@ ghost use Rattle.number_codes.specs.Payloads.{payload_of, number_of_payload};
 ghost use Rattle.number_codes.specs.Targets.{cast_target_of};
 
 use numbers::{CastTarget, IntKind, Number};
-use values::MaybeNumber;
 
 // The bits of a number at its own width, in two's complement or IEEE 754: the second of the two words that hold it as a value.
 pub fn payload_of(a: Number) -> u64
@@ -20,10 +19,7 @@ pub fn payload_of(a: Number) -> u64
 pub fn number_of_payload(code: u8, w: u64) -> Option<Number>
     ensures { result ≡ number_of_payload code w }
 {
-    match values::number_in(values::value_at(code as u64, w)) {
-        MaybeNumber::Is(n) => Some(n),
-        MaybeNumber::Not => None,
-    }
+    values::number_in(values::value_at(u64::from(code), w))
 }
 
 // The target with the number that a Cast instruction holds, where there is one.

@@ -13,7 +13,7 @@ use clearing::clear;
 pub use run_numbers::{
     run_chunk, run_count, run_length, run_line, run_number, run_offset, stop_number,
 };
-use value_coding::{Coded, code_value};
+use value_coding::code_value;
 use vm_acts::{StopReason, Stopped};
 use vm_logic::RunValue;
 
@@ -107,8 +107,8 @@ pub fn code_end(end: Result<RunValue, Stopped>, cells: &[u64], res: &mut [u8]) -
                 count,
             },
         ) => match code_value(cells, taken, value, res) {
-            Coded::Bytes(length) => RunAnswer::Value { count, length },
-            Coded::TooLong => RunAnswer::Stop {
+            Some(length) => RunAnswer::Value { count, length },
+            None => RunAnswer::Stop {
                 reason: StopReason::ResultTooLong,
                 count,
                 chunk: 0,

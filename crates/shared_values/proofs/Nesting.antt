@@ -19,31 +19,27 @@ use Rattle.definition.specs.Coding.{coded}
 use Rattle.definition.proofs.Equality.{equal_decided}
 use Rattle.values.specs.declared.VmValue.{VmValue}
 use Rattle.values.specs.declared.VmValue.TheVariants.{Null, Num, Arr}
-use Rattle.values.specs.declared.Built.{Built}
-use Rattle.values.specs.declared.Built.TheVariants as built
-use Rattle.value_coding.specs.declared.Coded.{Coded}
 use Rattle.values.specs.Words.{pairs, Fit}
 use Rattle.values.specs.Cells.{tree_over, cells_of, trees_of, tree_of, Placed, Held}
 use Rattle.values.specs.Flat.{block_of, deepest, block_behind}
-use Rattle.values.specs.Building.{built_of, pick_built, Builds, BuiltOn}
+use Rattle.std.specs.Prelude.{Option, Result, Ok, Err, cond}
+use Rattle.values.specs.declared.BuildFault.{BuildFault}
+use Rattle.values.specs.declared.BuildFault.TheVariants.{NoRoom, TooDeep}
+use Rattle.values.specs.Building.{built_of, Builds, BuiltOn}
 use Rattle.value_equality.specs.Classes.{class_of, ClassTables}
 use Rattle.value_equality.specs.Equality.{EqualAsks, EqualGives}
 use Rattle.value_coding.specs.Coding.{code_of, coded_answer, coded_out, CodeGives}
 use Rattle.values.proofs.InCells.{cells_length}
 use Rattle.value_equality.proofs.Memos.{memo_none, down_none}
 use Rattle.values.proofs.FlatTrees.{none_formed}
-use Rattle.shared_values.specs.declared.Grown.{Grown}
-use Rattle.shared_values.specs.declared.Grown.TheVariants as growth
-use Rattle.shared_values.specs.declared.Nested.{Nested}
-use Rattle.shared_values.specs.declared.Nested.TheVariants.{At, NotBuilt}
-use Rattle.shared_values.specs.Nested.{nested_tree, last_tree, no_image, NestedAsks, Stays, Grows, GrownGives, NestedAt, NestedGives, CodedGives, done}
+use Rattle.shared_values.specs.Nested.{nested_tree, last_tree, no_image, NestedAsks, Stays, Grows, NestedAt, NestedGives, CodedGives, done}
 
 -- two values stored in a slice of four zeros
 pub pair_is : (p q : List ℕ) (x y : VmValue) → pairs p ≡ set (pairs (0 ∷ 0 ∷ 0 ∷ 0 ∷ [])) 0 x → pairs q ≡ set (pairs p) 1 y → take 2 (drop 0 (pairs q)) ≡ x ∷ y ∷ []
 unfolding pairs
 pair_is p q x y ep eq = ap (λ (l : List VmValue). take 2 l) (eq ∙ ap (λ (l : List VmValue). set l 1 y) ep)
 
-pub paired : (p q : List ℕ) (x y : VmValue) (n : ℕ) (ws ws' : List ℕ) (r : Built) → pairs p ≡ set (pairs (0 ∷ 0 ∷ 0 ∷ 0 ∷ [])) 0 x → pairs q ≡ set (pairs p) 1 y
+pub paired : (p q : List ℕ) (x y : VmValue) (n : ℕ) (ws ws' : List ℕ) (r : Result VmValue BuildFault) → pairs p ≡ set (pairs (0 ∷ 0 ∷ 0 ∷ 0 ∷ [])) 0 x → pairs q ≡ set (pairs p) 1 y
     → Builds arr (take 2 (drop 0 (pairs q))) n ws ws' r → Builds arr (x ∷ y ∷ []) n ws ws' r
 paired p q x y n ws ws' r ep eq b = subst (λ (l : List VmValue). Builds arr l n ws ws' r) (pair_is p q x y ep eq) b
 
@@ -56,7 +52,7 @@ pub record Stepped (n : ℕ) (ws ws' : List ℕ) (a b v : VmValue) : Type 0 wher
   pub older : (u : VmValue) → Placed (cells_of n ws) n u → Stays ws ws' n (n + 2) u
 
 module _ (n : ℕ) (ws ws' : List ℕ) (a b v : VmValue) (asks : NestedAsks ws n) (pa : Placed (cells_of n ws) n a) (pb : Placed (cells_of n ws) n b) (len : length ws' ≡ length ws)
-    (built : Builds arr (a ∷ b ∷ []) n ws ws' (built.Value v)) where
+    (built : Builds arr (a ∷ b ∷ []) n ws ws' (Ok v)) where
   both_placed : (j : ℕ) → j < 2 → Placed (cells_of n ws) n (get_or (a ∷ b ∷ []) j Null)
   both_placed zero l = pa
   both_placed (suc zero) l = pb
@@ -163,18 +159,18 @@ module _ (leaf last : Number) (i n₀ n : ℕ) (ws₀ ws ws' : List ℕ) (x y v 
       subst (λ (k : ℕ). Twins leaf last (i + 1) n₀ ws₀ ws' w v k) four (subst (λ (d : ℕ). Twins leaf last d n₀ ws₀ ws' w v (n + 2 + 2)) (sym (add-one i)) grown)
 
 -- ---- what was not built: the array of x and y passes a most
-picked_room : (p q : Bool) (v : VmValue) → built.NoRoom ≡ pick_built p (pick_built q (built.Value v) built.TooDeep) built.NoRoom → p ≡ false
+picked_room : (p q : Bool) (v : VmValue) → (Err NoRoom) ≡ cond p (cond q (Ok v) (Err TooDeep)) (Err NoRoom) → p ≡ false
 picked_room true true v e = let z : ◌≡◌ {A = ℕ} 0 1 = cc in absurd (omega arith)
 picked_room true false v e = let z : ◌≡◌ {A = ℕ} 0 1 = cc in absurd (omega arith)
 picked_room false q v e = refl
 
-picked_deep : (p q : Bool) (v : VmValue) → built.TooDeep ≡ pick_built p (pick_built q (built.Value v) built.TooDeep) built.NoRoom → q ≡ false
+picked_deep : (p q : Bool) (v : VmValue) → (Err TooDeep) ≡ cond p (cond q (Ok v) (Err TooDeep)) (Err NoRoom) → q ≡ false
 picked_deep true true v e = let z : ◌≡◌ {A = ℕ} 0 1 = cc in absurd (omega arith)
 picked_deep true false v e = refl
 picked_deep false q v e = let z : ◌≡◌ {A = ℕ} 0 1 = cc in absurd (omega arith)
 
-module _ (x y : VmValue) (n : ℕ) (ws ws' : List ℕ) (r : Built) (b : Builds arr (x ∷ y ∷ []) n ws ws' r) where
-  pub no_room : 2 * n ≤ length ws → r ≡ built.NoRoom → 4096 < n + 2
+module _ (x y : VmValue) (n : ℕ) (ws ws' : List ℕ) (r : Result VmValue BuildFault) (b : Builds arr (x ∷ y ∷ []) n ws ws' r) where
+  pub no_room : 2 * n ≤ length ws → r ≡ (Err NoRoom) → 4096 < n + 2
   unfolding built_of
   no_room h q =
       let f =
@@ -186,7 +182,7 @@ module _ (x y : VmValue) (n : ℕ) (ws ws' : List ℕ) (r : Built) (b : Builds a
       in
       omega (arith, leb-false (length (cells_of n ws ++ (x ∷ y ∷ []))) 4096 f, length-append (cells_of n ws) (x ∷ y ∷ []), cells_length n ws h)
 
-  pub too_deep : r ≡ built.TooDeep → 64 ≤ deepest (x ∷ y ∷ [])
+  pub too_deep : r ≡ (Err TooDeep) → 64 ≤ deepest (x ∷ y ∷ [])
   unfolding built_of
   too_deep q =
       let f =
@@ -198,13 +194,20 @@ module _ (x y : VmValue) (n : ℕ) (ws ws' : List ℕ) (r : Built) (b : Builds a
       in
       omega (arith, leb-false (suc (deepest (x ∷ y ∷ []))) 64 f)
 
--- the second array has no room
-pub no_room_then :
-    (x y v : VmValue) (n : ℕ) (ws mid ws' : List ℕ) (r r' : Built) → Builds arr (x ∷ y ∷ []) n ws mid r → r ≡ built.Value v → Builds arr (x ∷ x ∷ []) (n + 2) mid ws' r'
-    → 8192 ≤ length ws → length mid ≡ length ws → r' ≡ built.NoRoom → 4096 < n + 4
-no_room_then x y v n ws mid ws' r r' b q b' h l e =
-    let room : n + 2 ≤ 4096 = (subst (λ (k : Built). Builds arr (x ∷ y ∷ []) n ws mid k) q b).room in
-    omega (arith, no_room x x (n + 2) mid ws' r' b' (omega arith) e)
+pub not_built : (x y : VmValue) (n : ℕ) (ws ws' : List ℕ) (e : BuildFault) → Builds arr (x ∷ y ∷ []) n ws ws' (Err e) → 2 * n ≤ length ws → (4096 < n + 2) ⊎ (64 ≤ deepest (x ∷ y ∷ []))
+not_built x y n ws ws' NoRoom b h = inl (no_room x y n ws ws' (Err NoRoom) b h refl)
+not_built x y n ws ws' TooDeep b h = inr (too_deep x y n ws ws' (Err TooDeep) b refl)
+
+pub first_fails : (x y : VmValue) (n : ℕ) (ws ws' : List ℕ) (e : BuildFault) → Builds arr (x ∷ y ∷ []) n ws ws' (Err e) → 8192 ≤ length ws → n ≤ 4096
+    → (4096 < n + 4) ⊎ (64 ≤ deepest (x ∷ y ∷ []))
+first_fails x y n ws ws' e b h k = ⊎_elim (λ (a : 4096 < n + 2). inl (omega arith)) inr (not_built x y n ws ws' e b (omega arith))
+
+-- [x, x] after [x, y]
+pub second_fails : (x y v : VmValue) (n : ℕ) (ws mid ws' : List ℕ) (e : BuildFault) → Builds arr (x ∷ y ∷ []) n ws mid (Ok v) → Builds arr (x ∷ x ∷ []) (n + 2) mid ws' (Err e)
+    → 8192 ≤ length ws → length mid ≡ length ws → (4096 < n + 4) ⊎ (64 ≤ deepest (x ∷ y ∷ []))
+second_fails x y v n ws mid ws' e b b' h l =
+    let room = b.room in
+    ⊎_elim (λ (a : 4096 < n + 2 + 2). inl (omega arith)) (λ (a : 64 ≤ deepest (x ∷ x ∷ [])). inr (omega arith)) (not_built x x (n + 2) mid ws' e b' (omega arith))
 
 -- the nesting of the trees
 nest_pair : (a b : Value) → nest (node arr (more a (more b none))) ≡ suc (max (nest a) (max (nest b) 0))
@@ -227,22 +230,23 @@ nest_last n m (suc d) = omega (arith, nest_pair (nested_tree n d) (last_tree n m
 
 -- the next array is not built only where the whole tree would pass a most
 pub turn_fails :
-    (leaf last : Number) (i n₀ n depth : ℕ) (ws₀ ws ws' : List ℕ) (x y : VmValue) (g : Grown) → Twins leaf last i n₀ ws₀ ws x y n → i < depth → g ≡ growth.NotBuilt
-    → GrownGives x y n ws ws' g → (4096 < n₀ + 4 * depth) ⊎ (64 < depth)
-turn_fails leaf last i n₀ n depth ws₀ ws ws' x y g t h q k =
+    (leaf last : Number) (i n₀ n depth : ℕ) (ws₀ ws : List ℕ) (x y : VmValue) → Twins leaf last i n₀ ws₀ ws x y n → i < depth
+    → (4096 < n + 4) ⊎ (64 ≤ deepest (x ∷ y ∷ [])) → (4096 < n₀ + 4 * depth) ⊎ (64 < depth)
+turn_fails leaf last i n₀ n depth ws₀ ws x y t h k =
     let deep : (block_of x).nest ≡ i = t.placed.nests ∙ ap nest t.tree ∙ nest_nested leaf i in
     let deep' : (block_of y).nest ≡ i = t.path.placed.nests ∙ ap nest t.path.tree ∙ nest_last leaf last i in
     let few : n ≡ n₀ + 4 * i = t.path.count in
-    ⊎_elim (λ (a : 4096 < n + 4). inl (omega arith)) (λ (a : 64 ≤ deepest (x ∷ y ∷ [])). inr (omega arith)) (rw q at k)
+    ⊎_elim (λ (a : 4096 < n + 4). inl (omega arith)) (λ (a : 64 ≤ deepest (x ∷ y ∷ [])). inr (omega arith)) k
 
 -- a tree that was built
-pub nested_at : (leaf last : Number) (depth n : ℕ) (ws ws' : List ℕ) (r : Nested) (v : VmValue) (n' : ℕ) → r ≡ At v n' → NestedGives leaf last depth n
+pub nested_at : (leaf last : Number) (depth n : ℕ) (ws ws' : List ℕ) {r : Result (VmValue × ℕ) BuildFault} {v : VmValue} {n' : ℕ} → r ≡ Ok (v, n') → NestedGives leaf last depth n
     ws ws' r → NestedAt leaf last depth n ws ws' v n'
-nested_at leaf last depth n ws ws' r v n' q k = rw q at k
+nested_at leaf last depth n ws ws' {r} {v} {n'} q k = let t : NestedGives leaf last depth n ws ws' (Ok (v, n')) = rw q at k in t
 
 -- a tree behind at most as many cells as it takes is not built only where it nests over 64
-pub too_nested : (leaf last : Number) (depth n : ℕ) (ws ws' : List ℕ) (r : Nested) → n ≤ 4 * depth → r ≡ NotBuilt → NestedGives leaf last depth n ws ws' r → 64 < depth
-too_nested leaf last depth n ws ws' r h q k = ⊎_elim (λ (a : 4096 < n + 4 * depth). omega arith) (λ (a : 64 < depth). a) (rw q at k)
+pub too_nested : (leaf last : Number) (depth n : ℕ) (ws ws' : List ℕ) {r : Result (VmValue × ℕ) BuildFault} {f : BuildFault} → n ≤ 4 * depth → r ≡ Err f → NestedGives leaf last depth n ws ws' r → 64 < depth
+too_nested leaf last depth n ws ws' {r} {f} h q k =
+    let t : (4096 < n + 4 * depth) ⊎ (64 < depth) = rw q at k in ⊎_elim (λ (a : 4096 < n + 4 * depth). omega arith) (λ (a : 64 < depth). a) t
 
 -- ---- comparing and coding
 none_there : (a : ℕ) → class_of (0 ∷ []) a ≡ 0
@@ -293,7 +297,7 @@ equal_gives left left' right right' depth n m ws₀ ws₁ ws memo a b r x y g =
 pub code_asks : (leaf last : Number) (depth n : ℕ) (ws₀ ws : List ℕ) (v : VmValue) → NestedAt leaf last depth 0 ws₀ ws v n → Held ws n v
 code_asks leaf last depth n ws₀ ws v x = record { room = omega (arith, x.asks.few, x.asks.words); formed = x.asks.formed; placed = x.placed }
 
-pub code_gives : (leaf last : Number) (depth n : ℕ) (ws₀ ws : List ℕ) (v : VmValue) (words : ℕ) (l l' : List ℕ) (r : Coded) → NestedAt leaf last depth
+pub code_gives : (leaf last : Number) (depth n : ℕ) (ws₀ ws : List ℕ) (v : VmValue) (words : ℕ) (l l' : List ℕ) (r : Option ℕ) → NestedAt leaf last depth
     0 ws₀ ws v n → CodeGives ws n v l l' r → CodedGives leaf last depth words l l' r
 code_gives leaf last depth n ws₀ ws v words l l' r x g =
     let e : code_of ws n v ≡ coded trees n (last_tree leaf last depth) = ap (coded trees n) x.tree in

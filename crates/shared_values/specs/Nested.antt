@@ -1,5 +1,5 @@
 -- Trees of arrays of two whose leaves are all the same number, or all but the last one.
-use Rattle.std.specs.Prelude.{◌≡◌, ◌↔◌, ◌⊎◌, true, List, [], ◌∷◌, ℕ, zero, suc, ◌+◌, ◌*◌, ◌≤◌, ◌<◌, leb, length}
+use Rattle.std.specs.Prelude.{◌≡◌, Option, Some, None, Result, Ok, Err, Bool, ◌↔◌, ◌⊎◌, true, List, [], ◌∷◌, ℕ, zero, suc, ◌+◌, ◌*◌, ◌≤◌, ◌<◌, leb, length}
 use Rattle.numbers.specs.declared.Number.{Number}
 use Rattle.definition.specs.Image.{Image}
 use Rattle.definition.specs.Value.{Value, node, none, more, num, arr}
@@ -7,20 +7,12 @@ use Rattle.definition.specs.Trees.{trees}
 use Rattle.definition.specs.Equality.{Equal}
 use Rattle.definition.specs.Coding.{coded}
 use Rattle.values.specs.declared.VmValue.{VmValue}
-use Rattle.values.specs.declared.Built.TheVariants as built
-use Rattle.value_coding.specs.declared.Coded.{Coded}
-use Rattle.value_coding.specs.declared.Coded.TheVariants.{TooLong}
+use Rattle.values.specs.declared.BuildFault.{BuildFault}
 use Rattle.values.specs.Words.{Fit}
 use Rattle.values.specs.Flat.{deepest}
 use Rattle.values.specs.Cells.{cells_of, tree_of, Placed, WellFormed}
 use Rattle.values.specs.Building.{Builds}
 use Rattle.value_coding.specs.Coding.{coded_answer, coded_out}
-use Rattle.shared_values.specs.declared.Grown.{Grown}
-use Rattle.shared_values.specs.declared.Grown.TheVariants as grown
-use Rattle.shared_values.specs.declared.Nested.{Nested}
-use Rattle.shared_values.specs.declared.Nested.TheVariants.{At, NotBuilt}
-use Rattle.shared_values.specs.declared.Compared.{Compared}
-use Rattle.shared_values.specs.declared.Compared.TheVariants as compared
 
 -- all leaves the same: a number, under so many arrays of two
 unfoldable pub nested_tree : Number → ℕ → Value
@@ -50,12 +42,12 @@ pub record Stays (ws ws' : List ℕ) (n n' : ℕ) (u : VmValue) : Type 0 where
 pub record Grows (x y : VmValue) (n : ℕ) (ws ws' : List ℕ) (v w : VmValue) : Type 0 where
   pub between : List ℕ
   pub between_length : length between ≡ length ws
-  pub path : Builds arr (x ∷ y ∷ []) n ws between (built.Value v)
-  pub shared : Builds arr (x ∷ x ∷ []) (n + 2) between ws' (built.Value w)
+  pub path : Builds arr (x ∷ y ∷ []) n ws between (Ok v)
+  pub shared : Builds arr (x ∷ x ∷ []) (n + 2) between ws' (Ok w)
 
-abbrev pub GrownGives : VmValue → VmValue → ℕ → List ℕ → List ℕ → Grown → Type 0
-GrownGives x y n ws ws' (grown.Both v w) = Grows x y n ws ws' v w
-GrownGives x y n ws ws' grown.NotBuilt = (4096 < n + 4) ⊎ (64 ≤ deepest (x ∷ y ∷ []))
+abbrev pub GrownGives : VmValue → VmValue → ℕ → List ℕ → List ℕ → Result (VmValue × VmValue) BuildFault → Type 0
+GrownGives x y n ws ws' (Ok p) = Grows x y n ws ws' p.0 p.1
+GrownGives x y n ws ws' (Err e) = (4096 < n + 4) ⊎ (64 ≤ deepest (x ∷ y ∷ []))
 
 pub record NestedAt (leaf last : Number) (depth n : ℕ) (ws ws' : List ℕ) (v : VmValue) (n' : ℕ) : Type 0 where
   pub asks : NestedAsks ws' n'
@@ -66,17 +58,17 @@ pub record NestedAt (leaf last : Number) (depth n : ℕ) (ws ws' : List ℕ) (v 
   pub count : n' ≡ n + 4 * depth
 
 -- not built only where the cells or the nesting would pass document 01's mosts
-abbrev pub NestedGives : Number → Number → ℕ → ℕ → List ℕ → List ℕ → Nested → Type 0
-NestedGives leaf last depth n ws ws' (At v n') = NestedAt leaf last depth n ws ws' v n'
-NestedGives leaf last depth n ws ws' NotBuilt = (4096 < n + 4 * depth) ⊎ (64 < depth)
+abbrev pub NestedGives : Number → Number → ℕ → ℕ → List ℕ → List ℕ → Result (VmValue × ℕ) BuildFault → Type 0
+NestedGives leaf last depth n ws ws' (Ok p) = NestedAt leaf last depth n ws ws' p.0 p.1
+NestedGives leaf last depth n ws ws' (Err e) = (4096 < n + 4 * depth) ⊎ (64 < depth)
 
 -- the answer is whether the trees are equal; there is none only where a slice is short (of so many words, with a memo of so many) or the nesting is over 64
-abbrev pub ComparedGives : Number → Number → Number → Number → ℕ → ℕ → ℕ → Compared → Type 0
-ComparedGives a a' b b' depth words memo (compared.Answer r) = (r ≡ true) ↔ Equal no_image (last_tree a a' depth) (last_tree b b' depth)
-ComparedGives a a' b b' depth words memo compared.NotBuilt = (words < 8192) ⊎ ((memo < 4096) ⊎ (64 < depth))
+abbrev pub ComparedGives : Number → Number → Number → Number → ℕ → ℕ → ℕ → Option Bool → Type 0
+ComparedGives a a' b b' depth words memo (Some r) = (r ≡ true) ↔ Equal no_image (last_tree a a' depth) (last_tree b b' depth)
+ComparedGives a a' b b' depth words memo None = (words < 8192) ⊎ ((memo < 4096) ⊎ (64 < depth))
 
 -- the bytes of the tree where they fit, and nothing else; or nothing at all, and this only where the slice of words is short or the nesting is over 64
-pub data CodedGives (leaf last : Number) (depth words : ℕ) (l l' : List ℕ) (r : Coded) : Type 0 where
+pub data CodedGives (leaf last : Number) (depth words : ℕ) (l l' : List ℕ) (r : Option ℕ) : Type 0 where
   done : (n : ℕ) → r ≡ coded_answer (leb (length (coded trees n (last_tree leaf last depth))) (length l)) (coded trees n (last_tree leaf last depth))
       → l' ≡ coded_out (leb (length (coded trees n (last_tree leaf last depth))) (length l)) (coded trees n (last_tree leaf last depth)) l → CodedGives leaf last depth words l l' r
-  not_built : (words < 8192) ⊎ (64 < depth) → r ≡ TooLong → l' ≡ l → CodedGives leaf last depth words l l' r
+  not_built : (words < 8192) ⊎ (64 < depth) → r ≡ None → l' ≡ l → CodedGives leaf last depth words l l' r

@@ -7,47 +7,19 @@ mod shared_subtrees;
 use numbers::Number;
 pub use shared_subtrees::{code_nested, compare_nested};
 use std::io;
-use value_coding::Coded;
-use values::VmValue;
 
-// The two values of the next level; or there was no room.
-#[derive(Clone, Copy)]
-pub enum Grown {
-    Both(VmValue, VmValue),
-    NotBuilt,
-}
-
-// A nested value, and how many cells are taken with it; or there was no room.
-#[derive(Clone, Copy)]
-pub enum Nested {
-    At(VmValue, usize),
-    NotBuilt,
-}
-
-// Whether two nested values are equal; or there was no room.
-#[derive(Clone, Copy)]
-pub enum Compared {
-    Answer(bool),
-    NotBuilt,
-}
-
-fn say_compared(rt: &impl Print, c: Compared) -> io::Result<()> {
+fn say_compared(rt: &impl Print, c: Option<bool>) -> io::Result<()> {
     match c {
-        Compared::Answer(b) => {
-            if b {
-                println!(rt; "equal")
-            } else {
-                println!(rt; "unequal")
-            }
-        }
-        Compared::NotBuilt => println!(rt; "not built"),
+        Some(true) => println!(rt; "equal"),
+        Some(false) => println!(rt; "unequal"),
+        None => println!(rt; "not built"),
     }
 }
 
-fn say_coded(rt: &impl Print, c: Coded) -> io::Result<()> {
+fn say_coded(rt: &impl Print, c: Option<usize>) -> io::Result<()> {
     match c {
-        Coded::Bytes(_) => println!(rt; "coded"),
-        Coded::TooLong => println!(rt; "too long"),
+        Some(_) => println!(rt; "coded"),
+        None => println!(rt; "too long"),
     }
 }
 

@@ -7,14 +7,12 @@ ghost use Rattle.values.specs.Words.{Fit};
 ghost use Rattle.values.specs.Building.{Builds};
 ghost use Rattle.shared_values.specs.Nested.{NestedAsks, GrownGives, NestedGives, ComparedGives, CodedGives};
 
-use super::{Compared, Grown, Nested};
 use clearing::clear;
 use numbers::Number;
-use value_coding::Coded;
-use values::{Built, SequenceKind, VmValue};
+use values::{BuildFault, SequenceKind, VmValue};
 
 // The value [x, y].
-fn pair(cells: &mut [u64], nc: usize, x: VmValue, y: VmValue) -> Built
+fn pair(cells: &mut [u64], nc: usize, x: VmValue, y: VmValue) -> Result<VmValue, BuildFault>
     requires { (8192 ≤ length cells.old) × (nc ≤ 4096) × Fit x × Fit y }
     ensures { Builds arr (x ∷ y ∷ []) nc cells.old cells.new result }
 {
@@ -25,48 +23,45 @@ fn pair(cells: &mut [u64], nc: usize, x: VmValue, y: VmValue) -> Built
 }
 
 // The values [x, y] and [x, x].
-fn grow(cells: &mut [u64], nc: usize, x: VmValue, y: VmValue) -> Grown
+fn grow(
+    cells: &mut [u64],
+    nc: usize,
+    x: VmValue,
+    y: VmValue,
+) -> Result<(VmValue, VmValue), BuildFault>
     requires { (8192 ≤ length cells.old) × (nc ≤ 4096) × Fit x × Fit y }
     ensures { GrownGives x y nc cells.old cells.new result }
 {
-    match pair(cells, nc, x, y) {
-        Built::Value(v) => match pair(cells, nc + 2, x, x) {
-            Built::Value(w) => Grown::Both(v, w),
-            Built::NoRoom => Grown::NotBuilt,
-            Built::TooDeep => Grown::NotBuilt,
-        },
-        Built::NoRoom => Grown::NotBuilt,
-        Built::TooDeep => Grown::NotBuilt,
-    }
+    let v = pair(cells, nc, x, y)?;
+    let w = pair(cells, nc + 2, x, x)?;
+    Ok((v, w))
 }
 
-// A tree of so many arrays of two, behind the nc cells that are taken. Its leaves are all the same number but for the last one: the first
-// part of each array is x, whose parts are all shared, and the second part is y, which has the last leaf.
-fn nest(cells: &mut [u64], nc: usize, leaf: Number, last: Number, depth: usize) -> Nested
+// A tree of so many arrays of two, behind the nc cells that are taken, and how many are taken with it. Its leaves are all the same number
+// but for the last one: the first part of each array is x, whose parts are all shared, and the second part is y, which has the last leaf.
+fn nest(
+    cells: &mut [u64],
+    nc: usize,
+    leaf: Number,
+    last: Number,
+    depth: usize,
+) -> Result<(VmValue, usize), BuildFault>
     requires { NestedAsks cells.old nc }
     ensures { NestedGives leaf last depth nc cells.old cells.new result }
 {
     let mut x = VmValue::Num(leaf);
     let mut y = VmValue::Num(last);
     let mut n = nc;
-    let mut i = 0;
-    while i < depth {
-        match grow(cells, n, x, y) {
-            Grown::Both(v, w) => {
-                y = v;
-                x = w;
-                n += 4;
-            }
-            Grown::NotBuilt => {
-                return Nested::NotBuilt;
-            }
-        }
-        i += 1;
+    for _ in 0..depth {
+        let (v, w) = grow(cells, n, x, y)?;
+        y = v;
+        x = w;
+        n += 4;
     }
-    Nested::At(y, n)
+    Ok((y, n))
 }
 
-// Two such trees compared, in slices as they come.
+// Whether two such trees are equal, in slices as they come; none where they are not built.
 fn compare_in(
     left: Number,
     left_last: Number,
@@ -75,27 +70,23 @@ fn compare_in(
     depth: usize,
     cells: &mut [u64],
     memo: &mut [u16],
-) -> Compared
+) -> Option<bool>
     ensures { ComparedGives left left_last right right_last depth (length cells.old) (length memo.old) result }
 {
     if cells.len() < 8192 {
-        return Compared::NotBuilt;
+        return None;
     }
     if memo.len() < 4096 {
-        return Compared::NotBuilt;
+        return None;
     }
     clear(memo);
-    match nest(cells, 0, left, left_last, depth) {
-        Nested::At(a, n) => match nest(cells, n, right, right_last, depth) {
-            Nested::At(b, m) => {
-                let texts = [0u64; 1];
-                let chunks = [0u64; 1];
-                Compared::Answer(value_equality::equal(&texts, &chunks, cells, m, memo, a, b))
-            }
-            Nested::NotBuilt => Compared::NotBuilt,
-        },
-        Nested::NotBuilt => Compared::NotBuilt,
-    }
+    let Ok((a, n)) = nest(cells, 0, left, left_last, depth) else {
+        return None;
+    };
+    let Ok((b, m)) = nest(cells, n, right, right_last, depth) else {
+        return None;
+    };
+    Some(value_equality::equal(&[0], &[0], cells, m, memo, a, b))
 }
 
 // Two such trees compared. Both slices are zero afterwards.
@@ -107,7 +98,7 @@ pub fn compare_nested(
     depth: usize,
     cells: &mut [u64],
     memo: &mut [u16],
-) -> Compared
+) -> Option<bool>
     ensures answer { ComparedGives left left_last right right_last depth (length cells.old) (length memo.old) result }
     ensures cells { AllZero cells.new }
     ensures memo { AllZero memo.new }
@@ -119,16 +110,22 @@ pub fn compare_nested(
 }
 
 // Such a tree coded, in cells as they come.
-fn code_in(leaf: Number, last: Number, depth: usize, cells: &mut [u64], out: &mut [u8]) -> Coded
+fn code_in(
+    leaf: Number,
+    last: Number,
+    depth: usize,
+    cells: &mut [u64],
+    out: &mut [u8],
+) -> Option<usize>
     ensures { CodedGives leaf last depth (length cells.old) out.old out.new result }
 {
     if cells.len() < 8192 {
-        return Coded::TooLong;
+        return None;
     }
-    match nest(cells, 0, leaf, last, depth) {
-        Nested::At(a, n) => value_coding::code_value(cells, n, a, out),
-        Nested::NotBuilt => Coded::TooLong,
-    }
+    let Ok((a, n)) = nest(cells, 0, leaf, last, depth) else {
+        return None;
+    };
+    value_coding::code_value(cells, n, a, out)
 }
 
 // Such a tree coded. The cells are zero afterwards.
@@ -138,7 +135,7 @@ pub fn code_nested(
     depth: usize,
     cells: &mut [u64],
     out: &mut [u8],
-) -> Coded
+) -> Option<usize>
     ensures answer { CodedGives leaf last depth (length cells.old) out.old out.new result }
     ensures cells { AllZero cells.new }
 {

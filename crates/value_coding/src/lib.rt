@@ -12,10 +12,3 @@ pub struct Header {
     pub size: usize,
     pub word: u64,
 }
-
-// What coding answers: how many bytes were written, or that they are more than there is room for.
-#[derive(Clone, Copy)]
-pub enum Coded {
-    Bytes(usize),
-    TooLong,
-}

@@ -9,10 +9,3 @@ mod kind;
 pub use classes::{chunk_classes, class_of, text_classes};
 pub use equality::equal;
 pub use kind::value_is_kind;
-use values::Block;
-
-#[derive(Clone, Copy)]
-pub enum MaybeBlock {
-    Is(Block),
-    Not,
-}

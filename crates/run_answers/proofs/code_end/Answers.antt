@@ -9,29 +9,29 @@ code_value-requires c =
     let pre = c.requires in
     value_held args.end args.cells.now _ c.in-Ok.is pre
 
-pub shape_of-res-in-Bytes : goal.shape_of-res-in-Bytes
-shape_of-res-in-Bytes c =
+pub shape_of-res-in-Some : goal.shape_of-res-in-Some
+shape_of-res-in-Some c =
     let code_value = c.code_value in
     code_value.auto.out
 
-pub returns-in-Bytes : goal.returns-in-Bytes
-returns-in-Bytes c =
+pub returns-in-Some : goal.returns-in-Some
+returns-in-Some c =
     let code_value = c.code_value in
     let args = c.args in
     ended_as args.end _ args.cells.now args.res.now code_value.new.out _ c.in-Ok.is (value_ends args.cells.now
-    args.res.now code_value.new.out _ _ _ code_value.result _ c.in-Bytes.is code_value.ensures)
+    args.res.now code_value.new.out _ _ _ code_value.result _ c.in-Some.is code_value.ensures)
 
-pub shape_of-res-in-TooLong : goal.shape_of-res-in-TooLong
-shape_of-res-in-TooLong c =
+pub shape_of-res-in-None : goal.shape_of-res-in-None
+shape_of-res-in-None c =
     let code_value = c.code_value in
     code_value.auto.out
 
-pub returns-in-TooLong : goal.returns-in-TooLong
-returns-in-TooLong c =
+pub returns-in-None : goal.returns-in-None
+returns-in-None c =
     let code_value = c.code_value in
     let args = c.args in
     ended_as args.end _ args.cells.now args.res.now code_value.new.out _ c.in-Ok.is (long_ends args.cells.now args.res.now
-    code_value.new.out _ _ _ code_value.result c.in-TooLong.is code_value.ensures)
+    code_value.new.out _ _ _ code_value.result c.in-None.is code_value.ensures)
 
 pub returns-in-Err : goal.returns-in-Err
 returns-in-Err c =

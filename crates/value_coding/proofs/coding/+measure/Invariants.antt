@@ -1,6 +1,6 @@
--- By induction on how deep the value nests. In the loop what is left of the room, the header and the codes of the parts before i come to the room.
+-- By induction on how deep the value nests. In the loop what is left and the codes of the parts before i come to what the header left.
 use mathlib.Core.Path.{◌≡◌}
-use Prim.Native.Nat.{◌+◌, ◌-◌, ◌≤◌}
+use Prim.Native.Nat.{◌+◌, ◌≤◌}
 use lib.ListN.{length, take, drop}
 use Rattle.values.specs.Flat.{block_of}
 use Rattle.values.specs.Cells.{trees_of, cells_of}
@@ -11,7 +11,4 @@ abbrev pub decreases-measure : goal.decreases-measure
 decreases-measure l = (block_of l.v).nest
 
 abbrev pub invariant-loop-i : goal.invariant-loop-i
-invariant-loop-i l = (l.i ≤ l.n) × (l.left + (l.size + 1) + length (codes l.nc (take l.i (drop l.s (trees_of (cells_of l.nc l.cells))))) ≡ l.room)
-
-abbrev pub decreases-loop-i : goal.decreases-loop-i
-decreases-loop-i l = l.n - l.i
+invariant-loop-i l = (l.i ≤ l.b.count) × (l.left + length (codes l.nc (take l.i (drop l.b.start (trees_of (cells_of l.nc l.cells))))) ≡ l.initial.left)

@@ -6,23 +6,23 @@ use Rattle.value_coding.proofs.coding.code_value.Goals as goal
 
 pub write_value-requires : goal.write_value-requires
 write_value-requires c =
-    let measure2 = c.measure-r in
+    let measure2 = c.measure in
     let args = c.args in
     let pre = c.requires in
-    (pre, coded_room (code_of args.cells.now args.nc args.v) args.out.now measure2.result _ measure2.ensures c.in-Bytes.is)
+    (pre, coded_room (code_of args.cells.now args.nc args.v) args.out.now measure2.result _ measure2.ensures c.in_ok-measure.was)
 
-pub returns-in-Bytes : goal.returns-in-Bytes
-returns-in-Bytes c =
+pub returns : goal.returns
+returns c =
     let write_value = c.write_value in
-    let measure2 = c.measure-r in
+    let measure2 = c.measure in
     let args = c.args in
     let pre = c.requires in
     coded_fits args.cells.now args.nc args.v pre args.out.now _ measure2.result _ write_value.result measure2.ensures
-    c.in-Bytes.is write_value.ensures.0 write_value.ensures.1
+    c.in_ok-measure.was write_value.ensures.0 write_value.ensures.1
 
-pub returns-in-TooLong : goal.returns-in-TooLong
-returns-in-TooLong c =
-    let measure2 = c.measure-r in
+pub returns-in_err-measure : goal.returns-in_err-measure
+returns-in_err-measure c =
+    let measure2 = c.measure in
     let args = c.args in
     let pre = c.requires in
-    over_long args.cells.now args.nc args.v pre args.out.now measure2.result measure2.ensures c.in-TooLong.is
+    rw c.from_residual.ensures (over_long args.cells.now args.nc args.v pre args.out.now measure2.result measure2.ensures c.in_err-measure.was)
