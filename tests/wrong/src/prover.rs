@@ -63,13 +63,13 @@ impl Log {
                 .filter_map(|line| said(line).map(|at| &line[at..]))
         };
         of_name()
-            .find(|v| !v.starts_with("proved"))
+            .find(|verdict| is_unproved(verdict))
+            .or_else(|| of_name().find(|v| !v.starts_with("proved")))
             .or_else(|| of_name().next())
     }
 
     pub fn unproved(&self, name: &str) -> bool {
-        let verdict = self.verdict(name).unwrap_or("proved");
-        verdict.starts_with("not proved") || verdict.starts_with("no proof")
+        self.verdict(name).is_some_and(is_unproved)
     }
 
     /// The errors of a function that is not proved by itself: messages that name its proof (with a `+` before the name of a recursive
@@ -159,6 +159,11 @@ impl Log {
 }
 
 /// Whether a line tells an error, and not only that what rests on another one was not checked.
+/// Whether what is said of a function is that it is not proved.
+fn is_unproved(verdict: &str) -> bool {
+    verdict.starts_with("not proved") || verdict.starts_with("no proof")
+}
+
 fn is_error(line: &str) -> bool {
     let rests = ["was not admitted", "were not checked", "was not checked"];
     line.contains(": error") && !rests.iter().any(|words| line.contains(words))
