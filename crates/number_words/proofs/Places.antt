@@ -24,7 +24,6 @@ use Rattle.numbers.specs.declared.IntKind.{IntKind}
 use Rattle.numbers.specs.declared.IntKind.TheVariants.{I64, U64, I32, U32, U8, I8, U16, I16}
 use Rattle.numbers.specs.Kinds.{int_kind_code, least_magnitude, greatest, in_range, as_kind, twos_complement, wrapping}
 use Rattle.numbers.proofs.Sums.{product, sum_other, sum_other'}
-use Rattle.number_arithmetic.proofs.Native.{sub_ind}
 use Rattle.numbers.specs.Answers.{pick}
 use Rattle.numbers.specs.Arithmetic.{checked}
 use Rattle.number_words.specs.declared.NarrowKind.{NarrowKind}
@@ -32,6 +31,14 @@ use Rattle.numbers.specs.Compare.{integer_order}
 use Rattle.numbers.proofs.Ranges.{in_range_neg, beyond}
 use Rattle.number_comparison.proofs.Orders.{order_less, order_greater, order_equal}
 use Rattle.number_words.specs.Words.{numbers_of, narrow_kinds, kind_among, narrow_kind, turn, signed, wide_answer, IsOf}
+
+-- ---- by the test, what the difference of two naturals is
+sub_ind : (a b : ℕ) (P : ℤ → Type 0) → (a < b → P (negsuc (b - suc a))) → (b ≤ a → P (pos (a - b))) → P (sub_ℕ a b)
+sub_ind a b P f g = go (ltb a b) (ltb→lt a b) (nltb→le a b)
+  where
+    go : (t : Bool) → (T t → a < b) → (T (not t) → b ≤ a) → P (cond t (negsuc (b - suc a)) (pos (a - b)))
+    go true x y = f (x tt)
+    go false x y = g (y tt)
 
 -- ---- the kind of a code
 pub no_kind : {code : ℕ} → (code ≡ 3 → ⊥) → (code ≡ 4 → ⊥) → (code ≡ 10 → ⊥) → (code ≡ 11 → ⊥) → (code ≡ 12 → ⊥) → (code ≡ 13 → ⊥) → None ≡ narrow_kind code
