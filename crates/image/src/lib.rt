@@ -4,7 +4,7 @@
 
 pub mod least; // the least lengths of the work slices
 
-ghost use Rattle.std.specs.Prelude.{◌≡◌, ◌≤◌, ◌<◌, length};
+ghost use Rattle.std.specs.Prelude.{◌≡◌, ◌≤◌, ◌<◌, length, is_err};
 ghost use Rattle.image.specs.Answer.{slices, blanked, Loads};
 ghost use Rattle.image.specs.Reading.{LoadRoomy, Sized, TakesLine, LoadsLines, LoadsSettled};
 
@@ -130,6 +130,13 @@ fn blank(
     clear(&mut table[..least::TABLE]);
 }
 
+// Whether nothing may stay in the slices. By itself, so that wrong/read_stays_after_4.edit can turn it and nothing else.
+fn is_refused(answer: &LoadAnswer) -> bool
+    ensures { result ≡ is_err answer.now }
+{
+    answer.is_err()
+}
+
 // An image that is not too long, in slices that are long enough. Of a refused one nothing stays in them.
 fn load_roomy(
     image: &[u8],
@@ -143,7 +150,7 @@ fn load_roomy(
     ensures { LoadsSettled image.now (slices bytes.old ends.old kinds.old payloads.old table.old) result (slices bytes.new ends.new kinds.new payloads.new table.new) }
 {
     let answer = load_lines(image, bytes, ends, kinds, payloads, table);
-    if answer.is_err() {
+    if is_refused(&answer) {
         blank(bytes, ends, kinds, payloads, table);
     }
     answer

@@ -1,3 +1,2 @@
--- A checked sum or difference of two i64, and a number with a sign negated, both in the type itself.
-pub mod Native
-pub mod Negates
+-- One file: what std's checked operations answer, as the definition has it.
+pub mod Checked

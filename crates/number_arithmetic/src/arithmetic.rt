@@ -1,8 +1,14 @@
 // Add, Sub, Mul and Div. Two Ints are added and subtracted in the type itself: they are what a sheet computes with most.
-ghost use Rattle.std.specs.Prelude.{◌≡◌, ◌+ℤ◌, ◌-ℤ◌, ◌*ℤ◌};
+ghost use Rattle.std.specs.Prelude.{◌≡◌, ◌+ℤ◌, ◌-ℤ◌, ◌*ℤ◌, ℤ, Result};
+ghost use Rattle.std.specs.Float.Ieee as Ieee;
+ghost use Rattle.std.specs.Float.{Format, binary32, binary64};
+ghost use Rattle.numbers.specs.declared.IntKind.{IntKind};
 ghost use Rattle.numbers.specs.declared.IntKind.TheVariants.{I64};
+ghost use Rattle.numbers.specs.declared.Number.{Number};
+ghost use Rattle.numbers.specs.declared.NumberFault.{NumberFault};
 ghost use Rattle.number_operands.specs.Operands.{value_of};
-ghost use Rattle.numbers.specs.Arithmetic.{checked as checked_of, checked_div, add_of, sub_of, mul_of, div_of};
+ghost use Rattle.numbers.specs.Scalars.{scalar_of, same_kind};
+ghost use Rattle.numbers.specs.Arithmetic.{checked as checked_of, checked_div, arithmetic, add_of, sub_of, mul_of, div_of};
 
 use number_operands::{OperandPair, SignMagnitude, checked, pair_of};
 use numbers::{IntKind, Number, NumberFault};
@@ -10,157 +16,213 @@ use numbers::{IntKind, Number, NumberFault};
 fn add_int(x: i64, y: i64) -> Result<Number, NumberFault>
     ensures { result ≡ checked_of I64 (x +ℤ y) }
 {
-    if y >= 0 {
-        if x <= 9223372036854775807 - y {
-            Ok(Number::Int(x + y))
-        } else {
-            Err(NumberFault::Overflow)
-        }
-    } else if -9223372036854775808 - y <= x {
-        Ok(Number::Int(x + y))
-    } else {
-        Err(NumberFault::Overflow)
+    match x.checked_add(y) {
+        Some(sum) => Ok(Number::Int(sum)),
+        None => Err(NumberFault::Overflow),
     }
 }
 
 fn sub_int(x: i64, y: i64) -> Result<Number, NumberFault>
     ensures { result ≡ checked_of I64 (x -ℤ y) }
 {
-    if y >= 0 {
-        if -9223372036854775808 + y <= x {
-            Ok(Number::Int(x - y))
-        } else {
-            Err(NumberFault::Overflow)
-        }
-    } else if x <= 9223372036854775807 + y {
-        Ok(Number::Int(x - y))
-    } else {
-        Err(NumberFault::Overflow)
+    match x.checked_sub(y) {
+        Some(rest) => Ok(Number::Int(rest)),
+        None => Err(NumberFault::Overflow),
     }
 }
 
 fn add_integers(kind: IntKind, a: SignMagnitude, b: SignMagnitude) -> Result<Number, NumberFault>
     ensures { result ≡ checked_of kind (value_of a +ℤ value_of b) }
 {
-    let m = a.magnitude;
-    let n = b.magnitude;
-    let s = a.negative;
-    let t = b.negative;
-    if s == t {
-        if m <= 0xffff_ffff_ffff_ffff - n {
-            checked(
-                kind,
-                SignMagnitude {
-                    negative: s,
-                    magnitude: m + n,
-                },
-            )
-        } else {
-            Err(NumberFault::Overflow)
-        }
-    } else if n <= m {
-        checked(
-            kind,
-            SignMagnitude {
-                negative: s,
-                magnitude: m - n,
-            },
-        )
+    if a.negative == b.negative {
+        return match a.magnitude.checked_add(b.magnitude) {
+            Some(magnitude) => checked(kind, SignMagnitude { magnitude, ..a }),
+            None => Err(NumberFault::Overflow),
+        };
+    }
+    if b.magnitude <= a.magnitude {
+        let magnitude = a.magnitude - b.magnitude;
+        checked(kind, SignMagnitude { magnitude, ..a })
     } else {
-        checked(
-            kind,
-            SignMagnitude {
-                negative: t,
-                magnitude: n - m,
-            },
-        )
+        let magnitude = b.magnitude - a.magnitude;
+        checked(kind, SignMagnitude { magnitude, ..b })
     }
 }
 
 fn sub_integers(kind: IntKind, a: SignMagnitude, b: SignMagnitude) -> Result<Number, NumberFault>
     ensures { result ≡ checked_of kind (value_of a -ℤ value_of b) }
 {
-    let t = b.negative;
-    let n = b.magnitude;
-    add_integers(
-        kind,
-        a,
-        SignMagnitude {
-            negative: !t,
-            magnitude: n,
-        },
-    )
+    let negative = !b.negative;
+    add_integers(kind, a, SignMagnitude { negative, ..b })
 }
 
 // A product of magnitudes below 2^64 needs up to 128 bits: it is past every kind where it does not fit 64.
 fn mul_integers(kind: IntKind, a: SignMagnitude, b: SignMagnitude) -> Result<Number, NumberFault>
     ensures { result ≡ checked_of kind (value_of a *ℤ value_of b) }
 {
-    let m = a.magnitude;
-    let n = b.magnitude;
-    let s = a.negative;
-    let t = b.negative;
-    if m == 0 {
-        return checked(
+    let negative = a.negative != b.negative;
+    match a.magnitude.checked_mul(b.magnitude) {
+        Some(magnitude) => checked(
             kind,
             SignMagnitude {
-                negative: false,
-                magnitude: 0,
+                negative,
+                magnitude,
             },
-        );
-    }
-    if n <= 0xffff_ffff_ffff_ffff / m {
-        checked(
-            kind,
-            SignMagnitude {
-                negative: s != t,
-                magnitude: m * n,
-            },
-        )
-    } else {
-        Err(NumberFault::Overflow)
+        ),
+        None => Err(NumberFault::Overflow),
     }
 }
 
 fn div_integers(kind: IntKind, a: SignMagnitude, b: SignMagnitude) -> Result<Number, NumberFault>
     ensures { result ≡ checked_div kind (value_of a) (value_of b) }
 {
-    let m = a.magnitude;
-    let n = b.magnitude;
-    let s = a.negative;
-    let t = b.negative;
-    if n == 0 {
-        Err(NumberFault::ZeroDivisor)
-    } else {
-        checked(
+    let negative = a.negative != b.negative;
+    match a.magnitude.checked_div(b.magnitude) {
+        Some(magnitude) => checked(
             kind,
             SignMagnitude {
-                negative: s != t,
-                magnitude: m / n,
+                negative,
+                magnitude,
             },
-        )
+        ),
+        None => Err(NumberFault::ZeroDivisor),
     }
 }
 
-fn add_any(a: Number, b: Number) -> Result<Number, NumberFault>
-    ensures { result ≡ add_of a b }
-{
-    match pair_of(a, b) {
-        OperandPair::Integers(k, p, q) => add_integers(k, p, q),
-        OperandPair::Doubles(p, q) => Ok(Number::Float(p + q)),
-        OperandPair::Singles(p, q) => Ok(Number::SFloat(p + q)),
-        OperandPair::Mixed => Err(NumberFault::WrongKind),
+// What an operation does to two integers of one kind, and to two floats of one format.
+trait Operation {
+    ghost on_integers: { IntKind → ℤ → ℤ → Result Number NumberFault };
+
+    ghost on_floats: { Format → Ieee.Float → Ieee.Float → Ieee.Float };
+
+    fn integers(
+        &self,
+        kind: IntKind,
+        a: SignMagnitude,
+        b: SignMagnitude,
+    ) -> Result<Number, NumberFault>
+        ensures { result ≡ on_integers kind (value_of a) (value_of b) };
+
+    fn doubles(&self, x: f64, y: f64) -> f64
+        ensures { result ≡ on_floats binary64 x y };
+
+    fn singles(&self, x: f32, y: f32) -> f32
+        ensures { result ≡ on_floats binary32 x y };
+}
+
+#[derive(Clone, Copy)]
+struct Addition;
+
+#[derive(Clone, Copy)]
+struct Subtraction;
+
+#[derive(Clone, Copy)]
+struct Multiplication;
+
+#[derive(Clone, Copy)]
+struct Division;
+
+impl Operation for Addition {
+    ghost on_integers = { λ kind a b. checked_of kind (a +ℤ b) };
+
+    ghost on_floats = { Ieee.add };
+
+    fn integers(
+        &self,
+        kind: IntKind,
+        a: SignMagnitude,
+        b: SignMagnitude,
+    ) -> Result<Number, NumberFault> {
+        add_integers(kind, a, b)
+    }
+
+    fn doubles(&self, x: f64, y: f64) -> f64 {
+        x + y
+    }
+
+    fn singles(&self, p: f32, q: f32) -> f32 {
+        p + q
     }
 }
 
-fn sub_any(a: Number, b: Number) -> Result<Number, NumberFault>
-    ensures { result ≡ sub_of a b }
+impl Operation for Subtraction {
+    ghost on_integers = { λ kind a b. checked_of kind (a -ℤ b) };
+
+    ghost on_floats = { Ieee.sub };
+
+    fn integers(
+        &self,
+        kind: IntKind,
+        a: SignMagnitude,
+        b: SignMagnitude,
+    ) -> Result<Number, NumberFault> {
+        sub_integers(kind, a, b)
+    }
+
+    fn doubles(&self, x: f64, y: f64) -> f64 {
+        x - y
+    }
+
+    fn singles(&self, p: f32, q: f32) -> f32 {
+        p - q
+    }
+}
+
+impl Operation for Multiplication {
+    ghost on_integers = { λ kind a b. checked_of kind (a *ℤ b) };
+
+    ghost on_floats = { Ieee.mul };
+
+    fn integers(
+        &self,
+        kind: IntKind,
+        a: SignMagnitude,
+        b: SignMagnitude,
+    ) -> Result<Number, NumberFault> {
+        mul_integers(kind, a, b)
+    }
+
+    fn doubles(&self, x: f64, y: f64) -> f64 {
+        x * y
+    }
+
+    fn singles(&self, p: f32, q: f32) -> f32 {
+        p * q
+    }
+}
+
+impl Operation for Division {
+    ghost on_integers = { checked_div };
+
+    ghost on_floats = { Ieee.div };
+
+    fn integers(
+        &self,
+        kind: IntKind,
+        a: SignMagnitude,
+        b: SignMagnitude,
+    ) -> Result<Number, NumberFault> {
+        div_integers(kind, a, b)
+    }
+
+    fn doubles(&self, x: f64, y: f64) -> f64 {
+        x / y
+    }
+
+    fn singles(&self, p: f32, q: f32) -> f32 {
+        p / q
+    }
+}
+
+// Two numbers of one kind, by the operation's rule for it.
+fn operate<O: Operation>(operation: &O, a: Number, b: Number) -> Result<Number, NumberFault>
+    ensures { result ≡ arithmetic O.on_integers O.on_floats (same_kind (scalar_of a) (scalar_of b)) }
 {
     match pair_of(a, b) {
-        OperandPair::Integers(k, p, q) => sub_integers(k, p, q),
-        OperandPair::Doubles(p, q) => Ok(Number::Float(p - q)),
-        OperandPair::Singles(p, q) => Ok(Number::SFloat(p - q)),
-        OperandPair::Mixed => Err(NumberFault::WrongKind),
+        Some(OperandPair::Integers(kind, p, q)) => operation.integers(kind, p, q),
+        Some(OperandPair::Doubles(p, q)) => Ok(Number::Float(operation.doubles(p, q))),
+        Some(OperandPair::Singles(p, q)) => Ok(Number::SFloat(operation.singles(p, q))),
+        None => Err(NumberFault::WrongKind),
     }
 }
 
@@ -175,14 +237,14 @@ pub fn add(a: Number, b: Number) -> Result<Number, NumberFault>
             _ => {
                 let p = a;
                 let q = b;
-                let r = add_any(p, q);
+                let r = operate(&Addition, p, q);
                 r
             }
         },
         _ => {
             let p = a;
             let q = b;
-            let r = add_any(p, q);
+            let r = operate(&Addition, p, q);
             r
         }
     }
@@ -197,14 +259,14 @@ pub fn sub(a: Number, b: Number) -> Result<Number, NumberFault>
             _ => {
                 let p = a;
                 let q = b;
-                let r = sub_any(p, q);
+                let r = operate(&Subtraction, p, q);
                 r
             }
         },
         _ => {
             let p = a;
             let q = b;
-            let r = sub_any(p, q);
+            let r = operate(&Subtraction, p, q);
             r
         }
     }
@@ -213,21 +275,11 @@ pub fn sub(a: Number, b: Number) -> Result<Number, NumberFault>
 pub fn mul(a: Number, b: Number) -> Result<Number, NumberFault>
     ensures { result ≡ mul_of a b }
 {
-    match pair_of(a, b) {
-        OperandPair::Integers(k, p, q) => mul_integers(k, p, q),
-        OperandPair::Doubles(p, q) => Ok(Number::Float(p * q)),
-        OperandPair::Singles(p, q) => Ok(Number::SFloat(p * q)),
-        OperandPair::Mixed => Err(NumberFault::WrongKind),
-    }
+    operate(&Multiplication, a, b)
 }
 
 pub fn div(a: Number, b: Number) -> Result<Number, NumberFault>
     ensures { result ≡ div_of a b }
 {
-    match pair_of(a, b) {
-        OperandPair::Integers(k, p, q) => div_integers(k, p, q),
-        OperandPair::Doubles(p, q) => Ok(Number::Float(p / q)),
-        OperandPair::Singles(p, q) => Ok(Number::SFloat(p / q)),
-        OperandPair::Mixed => Err(NumberFault::WrongKind),
-    }
+    operate(&Division, a, b)
 }

@@ -1,5 +1,5 @@
 -- The turns of a loop, and the number that it starts from. Assumes nothing.
-use Rattle.std.proofs.Common.{◌≡◌, ℕ, ◌+◌, ◌%◌, ◌^◌, ◌<◌, sym, refl, ap, ◌∙◌, subst, add-one, Bool, Result, Ok}
+use Rattle.std.proofs.Common.{◌≡◌, ℕ, ◌+◌, ◌%◌, ◌^◌, ◌<◌, sym, refl, ap, ◌∙◌, subst, add-one, Bool, Result, Ok, Err, rules}
 use Rattle.numbers.specs.declared.Number.{Number}
 use Rattle.numbers.specs.declared.NumberFault.{NumberFault}
 use Rattle.numbers.specs.declared.ComparisonFault.{ComparisonFault}
@@ -21,15 +21,19 @@ next_turn f i x y z t e g = ap (λ (n : ℕ). turns f n x) (add-one i) ∙ ap (o
 
 -- all turns were made
 pub all_turns : (f : Number → Number → Result Number NumberFault) (n i : ℕ) (x y x' y' z : Number) {left : ℕ} → x ≡ x' → y ≡ y' → i ≡ n → turns (λ a. f a y) i x ≡
-    Ok z → left ≡ payload_of z → Ends (λ a. f a y') n x' i left
+    Ok z → left ≡ payload_of z → Ends (λ a. f a y') n x' n left
 all_turns f n i x y x' y' z {left} p q k t l =
     record {
-      all = k;
+      all = refl;
       number = z;
       turned = subst (λ (b : Number). turns (λ a. f a b) n x' ≡ Ok z) q (subst (λ (a : Number). turns (λ w. f w y) n a ≡ Ok z) p (subst (λ (m :
           ℕ). turns (λ w. f w y) m x ≡ Ok z) k t));
       payload = l;
     }
+
+-- a fault is no number
+pub no_value : {e : NumberFault} {r : Result Number NumberFault} → r ≡ Err e → (v : Number) → r ≡ Ok v → ⊥
+no_value {e} k v h = let z : ◌≡◌ {A = Result Number NumberFault} (Err e) (Ok v) = sym k ∙ h in search rules
 
 -- a turn answered a fault
 pub faulted : (f : Number → Number → Result Number NumberFault) (n i : ℕ) (x y x' y' z : Number) {r : Result Number NumberFault} {lent : ℕ} → x ≡ x' → y ≡ y' → i < n → turns (λ

@@ -38,6 +38,10 @@ pub record Stops (f : Number → Result Number NumberFault) (n : ℕ) (x : Numbe
   pub fault : (y : Number) → f number ≡ Ok y → ⊥
   pub kept : left ≡ lent
 
+-- what an operation answers is what f does
+abbrev pub Computes : (Number → Number → Result Number NumberFault → Type 0) → (Number → Number → Result Number NumberFault) → Type 0
+Computes answers f = (x y : Number) (r : Result Number NumberFault) → answers x y r → r ≡ f x y
+
 -- what a loop of n turns gives that made r of them
 abbrev pub Gives : (Number → Result Number NumberFault) → ℕ → Number → ℕ → ℕ → ℕ → Type 0
 Gives f n x r lent left = Ends f n x r left ⊎ Stops f n x r lent left

@@ -3,10 +3,12 @@
 // came to: no turn can be left away. Add, Sub and Mul leave their loop at a fault, as a machine does.
 #![tactic(auto)]
 
-ghost use Rattle.std.specs.Prelude.{◌≡◌};
+ghost use Rattle.std.specs.Prelude.{◌≡◌, Result};
+ghost use Rattle.numbers.specs.declared.Number.{Number};
+ghost use Rattle.numbers.specs.declared.NumberFault.{NumberFault};
 ghost use Rattle.numbers.specs.Arithmetic.{add_of, sub_of, mul_of};
 ghost use Rattle.number_codes.specs.Payloads.{payload_of};
-ghost use Rattle.number_bench.specs.Turns.{number_at, Gives, steps, pace_of, count_on, value_or, there_and_back};
+ghost use Rattle.number_bench.specs.Turns.{number_at, Computes, Gives, steps, pace_of, count_on, value_or, there_and_back};
 
 use numbers::{CastTarget, ComparisonFault, IntKind, Number, NumberFault};
 
@@ -33,71 +35,75 @@ fn pace(answer: Result<bool, ComparisonFault>) -> u64
     }
 }
 
+// So many turns of an operation, each on what the turn before answered and the second operand; a fault ends them.
+fn repeated<F: Fn(Number, Number) -> Result<Number, NumberFault>>(
+    operation: F,
+    n: u64,
+    kind: u8,
+    first: u64,
+    second: u64,
+    last: &mut u64,
+) -> u64
+    requires { F.IsAlwaysCallable operation }
+    ensures { (f : Number → Number → Result Number NumberFault) → Computes (F.post operation) f → Gives (λ x. f x (number_at kind second)) n (number_at kind first) result last.old last.new }
+{
+    let mut acc = number(kind, first);
+    let operand = number(kind, second);
+    for i in 0..n {
+        match operation(acc, operand) {
+            Ok(y) => {
+                acc = y;
+            }
+            Err(_) => {
+                return i;
+            }
+        }
+    }
+    *last = number_codes::payload_of(acc);
+    n
+}
+
 // It alone calls `add`, as a machine has one place that adds.
 #[unsafe(no_mangle)]
 pub extern "C" fn bench_add(n: u64, kind: u8, first: u64, second: u64, last: &mut u64) -> u64
     ensures { Gives (λ x. add_of x (number_at kind second)) n (number_at kind first) result last.old last.new }
 {
-    let mut i: u64 = 0;
-    let mut acc = number(kind, first);
-    let operand = number(kind, second);
-    while i < n {
-        match number_arithmetic::add(acc, operand) {
-            Ok(y) => {
-                acc = y;
-            }
-            _ => {
-                return i;
-            }
-        }
-        i += 1;
-    }
-    *last = number_codes::payload_of(acc);
-    i
+    repeated(
+        |x, y| number_arithmetic::add(x, y),
+        n,
+        kind,
+        first,
+        second,
+        last,
+    )
 }
 
 #[unsafe(no_mangle)]
 pub extern "C" fn bench_sub(n: u64, kind: u8, first: u64, second: u64, last: &mut u64) -> u64
     ensures { Gives (λ x. sub_of x (number_at kind second)) n (number_at kind first) result last.old last.new }
 {
-    let mut i: u64 = 0;
-    let mut acc = number(kind, first);
-    let operand = number(kind, second);
-    while i < n {
-        match number_arithmetic::sub(acc, operand) {
-            Ok(y) => {
-                acc = y;
-            }
-            _ => {
-                return i;
-            }
-        }
-        i += 1;
-    }
-    *last = number_codes::payload_of(acc);
-    i
+    repeated(
+        |x, y| number_arithmetic::sub(x, y),
+        n,
+        kind,
+        first,
+        second,
+        last,
+    )
 }
 
 #[unsafe(no_mangle)]
 pub extern "C" fn bench_mul(n: u64, kind: u8, first: u64, second: u64, last: &mut u64) -> u64
     ensures { Gives (λ x. mul_of x (number_at kind second)) n (number_at kind first) result last.old last.new }
 {
-    let mut i: u64 = 0;
-    let mut acc = number(kind, first);
-    let operand = number(kind, second);
-    while i < n {
-        match number_arithmetic::mul(acc, operand) {
-            Ok(y) => {
-                acc = y;
-            }
-            _ => {
-                return i;
-            }
-        }
-        i += 1;
-    }
-    *last = number_codes::payload_of(acc);
-    i
+    repeated(
+        |x, y| number_arithmetic::mul(x, y),
+        n,
+        kind,
+        first,
+        second,
+        last,
+    )
 }
 
 // Counts by threes while the count, as a number of the kind, is less than the second operand, then by ones.
@@ -105,18 +111,13 @@ pub extern "C" fn bench_mul(n: u64, kind: u8, first: u64, second: u64, last: &mu
 pub extern "C" fn bench_less(n: u64, kind: u8, second: u64, last: &mut u64) -> u64
     ensures { (result ≡ n) × (last.new ≡ steps (count_on kind (number_at kind second)) n last.old) }
 {
-    let mut i: u64 = 0;
     let mut acc: u64 = *last;
     let bound = number(kind, second);
-    while i < n {
-        acc = std::num::wrapping_add_u64(
-            acc,
-            pace(number_comparison::less(number(kind, acc), bound)),
-        );
-        i += 1;
+    for _ in 0..n {
+        acc = acc.wrapping_add(pace(number_comparison::less(number(kind, acc), bound)));
     }
     *last = acc;
-    i
+    n
 }
 
 // Casts to Float and back to Int.
@@ -124,16 +125,14 @@ pub extern "C" fn bench_less(n: u64, kind: u8, second: u64, last: &mut u64) -> u
 pub extern "C" fn bench_cast(n: u64, kind: u8, first: u64, last: &mut u64) -> u64
     ensures { (result ≡ n) × (last.new ≡ payload_of (steps there_and_back n (number_at kind first))) }
 {
-    let mut i: u64 = 0;
     let mut acc = number(kind, first);
-    while i < n {
+    for _ in 0..n {
         acc = value_or(number_casts::cast(CastTarget::ToFloat, acc), acc);
         acc = value_or(
             number_casts::cast(CastTarget::ToInteger(IntKind::I64), acc),
             acc,
         );
-        i += 1;
     }
     *last = number_codes::payload_of(acc);
-    i
+    n
 }

@@ -10,9 +10,7 @@ ghost use Rattle.numbers.specs.Casts.{cast_integer, cast_to, cast_of};
 ghost use Rattle.number_casts.specs.Whole.{whole_part_of};
 
 use float_bits::FloatBits;
-use number_operands::{
-    Operand, SignMagnitude, in_range, int_kind_code, number_of_word, operand_of, word_of,
-};
+use number_operands::{Operand, SignMagnitude, in_range, number_of_word, word_of};
 use numbers::{CastTarget, IntKind, Number, NumberFault};
 
 // The whole part of a float's magnitude: itself below 2^64, its low 64 bits below 2^127, or too large for 128 bits with a sign.
@@ -57,7 +55,7 @@ fn whole_part(b: u64) -> WholePart
 fn cast_word(kind: IntKind, fits: bool, w: u64) -> Result<Number, NumberFault>
     ensures { (z : ℤ) → w ≡ low_bits 64 z → fits ≡ in_range kind z → result ≡ cast_integer kind z }
 {
-    if int_kind_code(kind) == 1 {
+    if kind == IntKind::I64 {
         Ok(number_of_word(IntKind::I64, w))
     } else if fits {
         Ok(number_of_word(kind, w))
@@ -176,7 +174,7 @@ fn low_word(x: f64) -> u64
 pub fn int_to_float_word(p: u64) -> u64
     ensures { Ieee.of_bits binary64 result ≡ Ieee.of_int binary64 (twos_complement 63 p) }
 {
-    nearest_to_int(number_operands::i64_of_word(p)).to_word()
+    nearest_to_int(p.cast_signed()).to_word()
 }
 
 pub fn uint_to_float_word(p: u64) -> u64
@@ -194,7 +192,7 @@ pub fn float_to_int_word(p: u64) -> u64
 pub fn cast(target: CastTarget, a: Number) -> Result<Number, NumberFault>
     ensures { result ≡ cast_of target a }
 {
-    match operand_of(a) {
+    match Operand::from(a) {
         Operand::Integer(_, x) => cast_from_integer(target, x),
         Operand::Double(x) => cast_from_float(target, x),
         Operand::Single(x) => cast_from_float(target, std::num::f32_to_f64_with_nan(x)),

@@ -13,14 +13,11 @@ use std::cmp::Ordering;
 fn is_below(a: SignMagnitude, b: SignMagnitude) -> bool
     ensures { result ≡ lt_z (value_of a) (value_of b) }
 {
-    let m = a.magnitude;
-    let n = b.magnitude;
-    if a.negative {
-        if b.negative { n < m } else { m != 0 || n != 0 }
-    } else if b.negative {
-        false
-    } else {
-        m < n
+    match (a.negative, b.negative) {
+        (false, false) => a.magnitude < b.magnitude,
+        (false, true) => false,
+        (true, false) => a.magnitude != 0 || b.magnitude != 0,
+        (true, true) => b.magnitude < a.magnitude,
     }
 }
 
@@ -40,10 +37,10 @@ fn compare_any(a: Number, b: Number) -> Result<Ordering, ComparisonFault>
     ensures { result ≡ compare_of a b }
 {
     match pair_of(a, b) {
-        OperandPair::Integers(_, p, q) => Ok(compare_integers(p, q)),
-        OperandPair::Doubles(p, q) => p.partial_cmp(&q).ok_or(ComparisonFault::Unordered),
-        OperandPair::Singles(p, q) => p.partial_cmp(&q).ok_or(ComparisonFault::Unordered),
-        OperandPair::Mixed => Err(ComparisonFault::WrongKind),
+        Some(OperandPair::Integers(_, p, q)) => Ok(compare_integers(p, q)),
+        Some(OperandPair::Doubles(p, q)) => p.partial_cmp(&q).ok_or(ComparisonFault::Unordered),
+        Some(OperandPair::Singles(p, q)) => p.partial_cmp(&q).ok_or(ComparisonFault::Unordered),
+        None => Err(ComparisonFault::WrongKind),
     }
 }
 

@@ -1,6 +1,6 @@
 // Integers by sign and magnitude, and by their bits in two's complement: what the eight integer kinds share.
 ghost use Rattle.std.specs.Prelude.{◌≡◌, pos};
-ghost use Rattle.numbers.specs.Kinds.{int_kind_code, least_magnitude, greatest, in_range, as_kind, low_bits, twos_complement, wrapping};
+ghost use Rattle.numbers.specs.Kinds.{int_kind_code, least_magnitude, greatest, in_range, as_kind, low_bits, wrapping};
 ghost use Rattle.number_operands.specs.Operands.{value_of};
 ghost use Rattle.numbers.specs.Arithmetic.{checked as checked_of};
 
@@ -56,26 +56,20 @@ pub fn greatest_of(kind: IntKind) -> u64
 pub fn in_range(kind: IntKind, x: SignMagnitude) -> bool
     ensures { result ≡ in_range kind (value_of x) }
 {
-    let n = x.magnitude;
     if x.negative {
-        n <= least_magnitude(kind)
+        x.magnitude <= least_magnitude(kind)
     } else {
-        n <= greatest_of(kind)
+        x.magnitude <= greatest_of(kind)
     }
 }
 
-pub fn sign_magnitude_of(x: i64) -> SignMagnitude
-    ensures { value_of result ≡ x }
-{
-    if x >= 0 {
+impl From<i64> for SignMagnitude {
+    ghost from_gives = { λ x parts. value_of parts ≡ x };
+
+    fn from(x: i64) -> SignMagnitude {
         SignMagnitude {
-            negative: false,
-            magnitude: x as u64,
-        }
-    } else {
-        SignMagnitude {
-            negative: true,
-            magnitude: ((-1 - x) as u64) + 1,
+            negative: x.is_negative(),
+            magnitude: x.unsigned_abs(),
         }
     }
 }
@@ -84,52 +78,10 @@ pub fn sign_magnitude_of(x: i64) -> SignMagnitude
 pub fn word_of(x: SignMagnitude) -> u64
     ensures { result ≡ low_bits 64 (value_of x) }
 {
-    let n = x.magnitude;
     if x.negative {
-        std::num::wrapping_sub_u64(0, n)
+        x.magnitude.wrapping_neg()
     } else {
-        n
-    }
-}
-
-// The four signed types from their bits.
-pub fn i64_of_word(n: u64) -> i64
-    ensures { result ≡ twos_complement 63 n }
-{
-    if n < 0x8000_0000_0000_0000 {
-        n as i64
-    } else {
-        -1 - ((0xffff_ffff_ffff_ffff - n) as i64)
-    }
-}
-
-pub fn i32_of_word(n: u32) -> i32
-    ensures { result ≡ twos_complement 31 n }
-{
-    if n < 0x8000_0000 {
-        n as i32
-    } else {
-        -1 - ((0xffff_ffff - n) as i32)
-    }
-}
-
-pub fn i16_of_word(n: u16) -> i16
-    ensures { result ≡ twos_complement 15 n }
-{
-    if n < 0x8000 {
-        n as i16
-    } else {
-        -1 - ((0xffff - n) as i16)
-    }
-}
-
-pub fn i8_of_word(n: u8) -> i8
-    ensures { result ≡ twos_complement 7 n }
-{
-    if n < 0x80 {
-        n as i8
-    } else {
-        -1 - ((0xff - n) as i8)
+        x.magnitude
     }
 }
 
@@ -138,14 +90,14 @@ pub fn number_of_word(kind: IntKind, n: u64) -> Number
     ensures { result ≡ as_kind kind (wrapping kind (pos n)) }
 {
     match kind {
-        IntKind::I64 => Number::Int(i64_of_word(n)),
+        IntKind::I64 => Number::Int(n.cast_signed()),
         IntKind::U64 => Number::UInt(n),
-        IntKind::I32 => Number::SInt(i32_of_word((n % 0x1_0000_0000) as u32)),
+        IntKind::I32 => Number::SInt(((n % 0x1_0000_0000) as u32).cast_signed()),
         IntKind::U32 => Number::SUInt((n % 0x1_0000_0000) as u32),
         IntKind::U8 => Number::Byte((n % 0x100) as u8),
-        IntKind::I8 => Number::SByte(i8_of_word((n % 0x100) as u8)),
+        IntKind::I8 => Number::SByte(((n % 0x100) as u8).cast_signed()),
         IntKind::U16 => Number::BByte((n % 0x1_0000) as u16),
-        IntKind::I16 => Number::BSByte(i16_of_word((n % 0x1_0000) as u16)),
+        IntKind::I16 => Number::BSByte(((n % 0x1_0000) as u16).cast_signed()),
     }
 }
 

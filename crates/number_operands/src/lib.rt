@@ -5,12 +5,9 @@
 mod integers;
 mod operands;
 
-pub use integers::{
-    checked, i8_of_word, i16_of_word, i32_of_word, i64_of_word, in_range, int_kind_code,
-    number_of_word, word_of,
-};
+pub use integers::{checked, in_range, int_kind_code, number_of_word, word_of};
 use numbers::IntKind;
-pub use operands::{kind_code, operand_of, pair_of};
+pub use operands::{kind_code, pair_of};
 
 // An integer of at most 65 bits with its sign. Zero may have either sign.
 #[derive(Clone, Copy)]
@@ -27,11 +24,10 @@ pub enum Operand {
     Single(f32),
 }
 
-// Two numbers of one kind, or not.
+// Two numbers of one kind.
 #[derive(Clone, Copy)]
 pub enum OperandPair {
     Integers(IntKind, SignMagnitude, SignMagnitude),
     Doubles(f64, f64),
     Singles(f32, f32),
-    Mixed,
 }

@@ -1,10 +1,9 @@
 // A number's kind, and one or two numbers taken apart.
 ghost use Rattle.std.specs.Prelude.{◌≡◌, false};
 ghost use Rattle.numbers.specs.Kinds.{kind_code};
-ghost use Rattle.numbers.specs.Scalars.{scalar_of, same_kind};
+ghost use Rattle.numbers.specs.Scalars.{integer, scalar_of, same_kind};
 ghost use Rattle.number_operands.specs.Operands.{operand_scalar, operand_pair};
 
-use super::integers::{int_kind_code, sign_magnitude_of};
 use super::{Operand, OperandPair, SignMagnitude};
 use numbers::{IntKind, Number};
 
@@ -26,61 +25,53 @@ pub fn kind_code(a: Number) -> u8
     }
 }
 
-fn unsigned(kind: IntKind, n: u64) -> Operand
-    ensures { result ≡ Operand.Integer kind (record { negative = false; magnitude = n }) }
+fn unsigned(kind: IntKind, magnitude: u64) -> Operand
+    ensures { result ≡ Operand.Integer kind (record { negative = false; magnitude = magnitude }) }
 {
     Operand::Integer(
         kind,
         SignMagnitude {
             negative: false,
-            magnitude: n,
+            magnitude,
         },
     )
 }
 
-pub fn operand_of(a: Number) -> Operand
-    ensures { operand_scalar result ≡ scalar_of a }
+fn signed(kind: IntKind, x: i64) -> Operand
+    ensures { operand_scalar result ≡ integer kind x }
 {
-    match a {
-        Number::Int(x) => Operand::Integer(IntKind::I64, sign_magnitude_of(x)),
-        Number::UInt(x) => unsigned(IntKind::U64, x),
-        Number::SInt(x) => Operand::Integer(IntKind::I32, sign_magnitude_of(x as i64)),
-        Number::SUInt(x) => unsigned(IntKind::U32, x as u64),
-        Number::Float(x) => Operand::Double(x),
-        Number::SFloat(x) => Operand::Single(x),
-        Number::Byte(x) => unsigned(IntKind::U8, x as u64),
-        Number::SByte(x) => Operand::Integer(IntKind::I8, sign_magnitude_of(x as i64)),
-        Number::BByte(x) => unsigned(IntKind::U16, x as u64),
-        Number::BSByte(x) => Operand::Integer(IntKind::I16, sign_magnitude_of(x as i64)),
+    Operand::Integer(kind, SignMagnitude::from(x))
+}
+
+impl From<Number> for Operand {
+    ghost from_gives = { λ a operand. operand_scalar operand ≡ scalar_of a };
+
+    fn from(a: Number) -> Operand {
+        match a {
+            Number::Int(x) => signed(IntKind::I64, x),
+            Number::UInt(x) => unsigned(IntKind::U64, x),
+            Number::SInt(x) => signed(IntKind::I32, i64::from(x)),
+            Number::SUInt(x) => unsigned(IntKind::U32, u64::from(x)),
+            Number::Float(x) => Operand::Double(x),
+            Number::SFloat(x) => Operand::Single(x),
+            Number::Byte(x) => unsigned(IntKind::U8, u64::from(x)),
+            Number::SByte(x) => signed(IntKind::I8, i64::from(x)),
+            Number::BByte(x) => unsigned(IntKind::U16, u64::from(x)),
+            Number::BSByte(x) => signed(IntKind::I16, i64::from(x)),
+        }
     }
 }
 
-pub fn pair_of(a: Number, b: Number) -> OperandPair
+// Two numbers of one kind; none where their kinds differ.
+pub fn pair_of(a: Number, b: Number) -> Option<OperandPair>
     ensures { operand_pair result ≡ same_kind (scalar_of a) (scalar_of b) }
 {
-    let x = operand_of(a);
-    let y = operand_of(b);
-    match x {
-        Operand::Integer(j, p) => match y {
-            Operand::Integer(k, q) => {
-                if int_kind_code(j) == int_kind_code(k) {
-                    OperandPair::Integers(j, p, q)
-                } else {
-                    OperandPair::Mixed
-                }
-            }
-            Operand::Double(_) => OperandPair::Mixed,
-            Operand::Single(_) => OperandPair::Mixed,
-        },
-        Operand::Double(p) => match y {
-            Operand::Integer(_, _) => OperandPair::Mixed,
-            Operand::Double(q) => OperandPair::Doubles(p, q),
-            Operand::Single(_) => OperandPair::Mixed,
-        },
-        Operand::Single(p) => match y {
-            Operand::Integer(_, _) => OperandPair::Mixed,
-            Operand::Double(_) => OperandPair::Mixed,
-            Operand::Single(q) => OperandPair::Singles(p, q),
-        },
+    match (Operand::from(a), Operand::from(b)) {
+        (Operand::Integer(j, p), Operand::Integer(k, q)) if j == k => {
+            Some(OperandPair::Integers(j, p, q))
+        }
+        (Operand::Double(p), Operand::Double(q)) => Some(OperandPair::Doubles(p, q)),
+        (Operand::Single(p), Operand::Single(q)) => Some(OperandPair::Singles(p, q)),
+        _ => None,
     }
 }

@@ -1,6 +1,6 @@
 -- A kind's numbers by their places, the least first: differences of naturals, what is in range, and the word at a place. For every kind of at most 32
 -- bits. Assumes nothing.
-use mathlib.Core.Path.{◌≡◌, refl, sym, ap, ◌∙◌}
+use mathlib.Core.Path.{◌≡◌, refl, sym, ap, subst, ◌∙◌}
 use mathlib.Core.Bool.{Bool, true, false, not, cond, beq}
 use mathlib.Core.List.{List, [], ◌∷◌}
 use mathlib.Core.Logic.{◌⊎◌, inl, inr, ⊎_elim}
@@ -12,30 +12,40 @@ use lib.Ieee.{unlike}
 use lib.IntN.{ℤ, pos, negsuc, neg_ℤ, sub_ℕ, ◌+ℤ◌, ◌-ℤ◌, ◌*ℤ◌}
 use lib.Signed.{lt_z}
 use borrow.Author.Tests.{lt-ltb, le-ltb, le-leb, lt-leb, ne_eqb, eqb-true}
-use Rattle.std.proofs.Common.{Ok, Err}
+use Rattle.std.proofs.Common.{Option, Some, None, Ok, Err, rules, unwrap_or}
+use Rattle.std.specs.Option.{SomeIff}
+use Rattle.std.specs.Ordering.{nat_cmp, MatchOrdering}
+use Rattle.std.specs.Cmp.{ranks}
+use Rattle.std.specs.declared.cmp.Ordering.{Ordering}
+use Rattle.std.specs.declared.cmp.Ordering.TheVariants.{Less, Equal, Greater}
 use Rattle.numbers.specs.declared.Number.TheVariants.{UInt}
 use Rattle.numbers.specs.declared.NumberFault.TheVariants.{Overflow}
 use Rattle.numbers.specs.declared.IntKind.{IntKind}
 use Rattle.numbers.specs.declared.IntKind.TheVariants.{I64, U64, I32, U32, U8, I8, U16, I16}
 use Rattle.numbers.specs.Kinds.{int_kind_code, least_magnitude, greatest, in_range, as_kind, twos_complement, wrapping}
 use Rattle.numbers.proofs.Sums.{product, sum_other, sum_other'}
-use Rattle.numbers.proofs.Ranges.{in_range_neg}
-use Rattle.number_arithmetic.proofs.Native.{sub_ind}
 use Rattle.numbers.specs.Answers.{pick}
 use Rattle.numbers.specs.Arithmetic.{checked}
 use Rattle.number_words.specs.declared.NarrowKind.{NarrowKind}
-use Rattle.number_words.specs.Words.{numbers_of, narrow_kinds, kind_among, narrow_kind, turn, signed, IsOf}
+use Rattle.numbers.specs.Compare.{integer_order}
+use Rattle.numbers.proofs.Ranges.{in_range_neg, beyond}
+use Rattle.number_comparison.proofs.Orders.{order_less, order_greater, order_equal}
+use Rattle.number_words.specs.Words.{numbers_of, narrow_kinds, kind_among, narrow_kind, turn, signed, wide_answer, IsOf}
+
+-- ---- by the test, what the difference of two naturals is
+sub_ind : (a b : ℕ) (P : ℤ → Type 0) → (a < b → P (negsuc (b - suc a))) → (b ≤ a → P (pos (a - b))) → P (sub_ℕ a b)
+sub_ind a b P f g = go (ltb a b) (ltb→lt a b) (nltb→le a b)
+  where
+    go : (t : Bool) → (T t → a < b) → (T (not t) → b ≤ a) → P (cond t (negsuc (b - suc a)) (pos (a - b)))
+    go true x y = f (x tt)
+    go false x y = g (y tt)
 
 -- ---- the kind of a code
-pub no_kind : {code : ℕ} → (code ≡ 3 → ⊥) → (code ≡ 4 → ⊥) → (code ≡ 10 → ⊥) → (code ≡ 11 → ⊥) → (code ≡ 12 → ⊥) → (code ≡ 13 → ⊥) → record {
-  numbers
-      = 0;
-  negatives = 0;
-} ≡ narrow_kind code
+pub no_kind : {code : ℕ} → (code ≡ 3 → ⊥) → (code ≡ 4 → ⊥) → (code ≡ 10 → ⊥) → (code ≡ 11 → ⊥) → (code ≡ 12 → ⊥) → (code ≡ 13 → ⊥) → None ≡ narrow_kind code
 unfolding narrow_kind
 no_kind {code} a b c d e f = simp (ne_eqb code 3 a, ne_eqb code 4 b, ne_eqb code 10 c, ne_eqb code 11 d, ne_eqb code 12 e, ne_eqb code 13 f)
 
--- where a kind has numbers, it is the one of the code
+-- a kind that is found is the one of the code
 abbrev pub KindOf : ℕ → NarrowKind → Type 0
 KindOf code n = (k : IntKind) × (int_kind_code k ≡ code) × IsOf k n
 
@@ -44,16 +54,19 @@ Narrow [] = Unit {0}
 Narrow (k ∷ ks) = (((least_magnitude k ≡ 0) ⊎ (least_magnitude k + least_magnitude k ≡ least_magnitude k + suc (greatest k))) × (least_magnitude k + suc
     (greatest k) ≤ 4294967296)) × Narrow ks
 
-among : (ks : List IntKind) (code : ℕ) → Narrow ks → 0 < (kind_among ks code).numbers → KindOf code (kind_among ks code)
-among [] code n l = let z : ⊥ = omega arith in absurd z
-among (k ∷ ks) code n l = go (among ks code n.1) (eqb code (int_kind_code k)) (eqb-true code (int_kind_code k)) l
+among : (ks : List IntKind) (code : ℕ) {n : NarrowKind} → Narrow ks → kind_among ks code ≡ Some n → KindOf code n
+among [] code l e = let z : ⊥ = search rules in absurd z
+among (k ∷ ks) code {n} l e = go (among ks code l.1) (eqb code (int_kind_code k)) (eqb-true code (int_kind_code k)) e
   where
-    go : (0 < (kind_among ks code).numbers → KindOf code (kind_among ks code)) → (t : Bool) → (t ≡ true → code ≡ int_kind_code k) → 0 < (cond t (numbers_of k) (kind_among ks code)).numbers
-        → KindOf code (cond t (numbers_of k) (kind_among ks code))
-    go g true e l = (k, sym (e refl), record { negatives = refl; numbers = refl; balanced = n.0.0; few = n.0.1 })
-    go g false e l = g l
+    this : IsOf k (numbers_of k)
+    this = record { negatives = refl; numbers = refl; balanced = l.0.0; few = l.0.1 }
 
-pub of_code : (code : ℕ) → 0 < (narrow_kind code).numbers → KindOf code (narrow_kind code)
+    go : (kind_among ks code ≡ Some n → KindOf code n) → (t : Bool) → (t ≡ true → code ≡ int_kind_code k) → cond t (Some (numbers_of k)) (kind_among ks code) ≡ Some n
+        → KindOf code n
+    go g true c e = (k, sym (c refl), subst (IsOf k) (ap (λ (o : Option NarrowKind). unwrap_or o (numbers_of k)) e) this)
+    go g false c e = g e
+
+pub of_code : (code : ℕ) {n : NarrowKind} → narrow_kind code ≡ Some n → KindOf code n
 unfolding narrow_kind
 of_code code l = among narrow_kinds code (
   (inr refl, omega arith),
@@ -292,3 +305,25 @@ wide_less p q l =
 
 pub wide_difference : (p q : ℕ) → q ≤ p → pos (p - q) ≡ pos p -ℤ pos q
 wide_difference p q l = sym (sum_other false true p q refl l)
+
+-- what the tests of an overflow leave
+pub wide_sum : (p q : ℕ) (r : Option ℕ) → SomeIff r (p + q < 2 ^ 64) (p + q) → wide_answer r ≡ checked U64 (pos p +ℤ pos q)
+wide_sum p q None h = sym (beyond U64 false (p + q) (omega (arith, h)))
+wide_sum p q (Some w) h = rw h.1 (wide_value (p + q) h.0)
+
+pub wide_rest : (p q : ℕ) (r : Option ℕ) → p < 2 ^ 64 → SomeIff r (q ≤ p) (p - q) → wide_answer r ≡ checked U64 (pos p -ℤ pos q)
+wide_rest p q None l h = wide_less p q (omega (arith, h))
+wide_rest p q (Some w) l h = rw h.1 (wide_value (p - q) (omega arith) ∙ ap (checked U64) (wide_difference p q h.0))
+
+pub wide_product : (p q : ℕ) (r : Option ℕ) → SomeIff r (p * q < 2 ^ 64) (p * q) → wide_answer r ≡ checked U64 (pos p *ℤ pos q)
+wide_product p q None h = sym (beyond U64 false (p * q) (omega (arith, h)))
+wide_product p q (Some w) h = rw h.1 (wide_value (p * q) h.0)
+
+-- the order of x and y is that of a and b, where their tests are the same
+pub same_order : (x y : ℕ) (a b : ℤ) → lt_z a b ≡ ltb x y → lt_z b a ≡ ltb y x → nat_cmp x y ≡ integer_order a b
+same_order x y a b e f = go (nat_cmp x y) (ranks x y)
+  where
+    go : (o : Ordering) → MatchOrdering o (x < y) (x ≡ y) (y < x) → o ≡ integer_order a b
+    go Less h = order_less a b (e ∙ lt-ltb x y h)
+    go Equal h = order_equal a b (e ∙ le-ltb x y (omega arith)) (f ∙ le-ltb y x (omega arith))
+    go Greater h = order_greater a b (e ∙ le-ltb x y (omega arith)) (f ∙ lt-ltb y x h)

@@ -1,5 +1,5 @@
 -- Numbers by their words: integers of at most 32 bits, UInts, and floats.
-use Rattle.std.specs.Prelude.{◌≡◌, Bool, cond, List, [], ◌∷◌, ◌⊎◌, ℕ, suc, ◌+◌, ◌-◌, ◌≤◌, eqb, ltb, Float, ℤ, pos, neg_ℤ, Result, Ok, Err}
+use Rattle.std.specs.Prelude.{◌≡◌, Bool, cond, List, [], ◌∷◌, ◌⊎◌, ℕ, suc, ◌+◌, ◌-◌, ◌≤◌, eqb, ltb, Float, ℤ, pos, neg_ℤ, Option, Some, None, Result, Ok, Err}
 use Rattle.std.specs.Float.{Format}
 use Rattle.std.specs.Float.Ieee as Ieee
 use Rattle.std.specs.Float.Ieee.{to_bits, of_bits}
@@ -13,8 +13,6 @@ use Rattle.numbers.specs.Kinds.{int_kind_code, least_magnitude, greatest, as_kin
 use Rattle.number_words.specs.declared.FloatOperation.{FloatOperation}
 use Rattle.number_words.specs.declared.FloatOperation.TheVariants.{Add, Sub, Mul, Div}
 use Rattle.number_words.specs.declared.NarrowKind.{NarrowKind}
-use Rattle.number_words.specs.declared.WordAnswer.{WordAnswer}
-use Rattle.number_words.specs.declared.WordAnswer.TheVariants.{Word, Overflow}
 
 -- how many numbers a kind has, and how many of them are negative
 abbrev pub numbers_of : IntKind → NarrowKind
@@ -25,11 +23,11 @@ abbrev pub narrow_kinds : List IntKind
 narrow_kinds = I32 ∷ U32 ∷ U8 ∷ I8 ∷ U16 ∷ I16 ∷ []
 
 -- the numbers of the kind that has this code, if it is among these; else none
-abbrev pub kind_among : List IntKind → ℕ → NarrowKind
-kind_among [] code = record { numbers = 0; negatives = 0 }
-kind_among (k ∷ ks) code = cond (eqb code (int_kind_code k)) (numbers_of k) (kind_among ks code)
+abbrev pub kind_among : List IntKind → ℕ → Option NarrowKind
+kind_among [] code = None
+kind_among (k ∷ ks) code = cond (eqb code (int_kind_code k)) (Some (numbers_of k)) (kind_among ks code)
 
-unfoldable pub narrow_kind : ℕ → NarrowKind
+unfoldable pub narrow_kind : ℕ → Option NarrowKind
 narrow_kind code = kind_among narrow_kinds code
 
 -- the highest bit turned, where the kind has a sign
@@ -48,14 +46,14 @@ pub record IsOf (k : IntKind) (n : NarrowKind) : Type 0 where
   pub few : n.numbers ≤ 4294967296
 
 -- an answer in words, as one of the numbers of the kind
-abbrev pub answer_in : IntKind → WordAnswer → Result Number NumberFault
-answer_in k (Word w) = Ok (as_kind k (wrapping k (pos w)))
-answer_in k Overflow = Err number.Overflow
+abbrev pub answer_in : IntKind → Option ℕ → Result Number NumberFault
+answer_in k (Some w) = Ok (as_kind k (wrapping k (pos w)))
+answer_in k None = Err number.Overflow
 
 -- the same for UInt
-abbrev pub wide_answer : WordAnswer → Result Number NumberFault
-wide_answer (Word w) = Ok (UInt w)
-wide_answer Overflow = Err number.Overflow
+abbrev pub wide_answer : Option ℕ → Result Number NumberFault
+wide_answer (Some w) = Ok (UInt w)
+wide_answer None = Err number.Overflow
 
 -- the operation of IEEE 754
 abbrev pub operation_of : FloatOperation → Format → Float → Float → Float

@@ -23,13 +23,6 @@ pub struct NarrowKind {
     pub negatives: u64,
 }
 
-// What an operation leaves: the word of the number, or an overflow.
-#[derive(Clone, Copy)]
-pub enum WordAnswer {
-    Word(u64),
-    Overflow,
-}
-
 // A kind with a sign has as many negative numbers as others.
 fn with_sign(negatives: u64) -> NarrowKind
     requires { negatives < 4294967296 }
@@ -50,18 +43,18 @@ fn without_sign(numbers: u64) -> NarrowKind
     }
 }
 
-// The kind of a code, if it is an integer's and has at most 32 bits; no numbers otherwise.
-pub fn narrow_kind(code: u64) -> NarrowKind
+// The kind of a code, if it is an integer's and has at most 32 bits.
+pub fn narrow_kind(code: u64) -> Option<NarrowKind>
     ensures { result ≡ narrow_kind code }
 {
     match code {
-        3 => with_sign(0x8000_0000),
-        4 => without_sign(0x1_0000_0000),
-        10 => without_sign(0x100),
-        11 => with_sign(0x80),
-        12 => without_sign(0x1_0000),
-        13 => with_sign(0x8000),
-        _ => without_sign(0),
+        3 => Some(with_sign(0x8000_0000)),
+        4 => Some(without_sign(0x1_0000_0000)),
+        10 => Some(without_sign(0x100)),
+        11 => Some(with_sign(0x80)),
+        12 => Some(without_sign(0x1_0000)),
+        13 => Some(with_sign(0x8000)),
+        _ => None,
     }
 }
 
@@ -78,35 +71,36 @@ fn turned(n: NarrowKind, p: u64) -> u64
     }
 }
 
-pub fn add_words(n: NarrowKind, p: u64, q: u64) -> WordAnswer
+// The operations answer the word of the number, or none where it overflows.
+pub fn add_words(n: NarrowKind, p: u64, q: u64) -> Option<u64>
     requires { ((k : IntKind) × IsOf k n) × (p < n.numbers) × (q < n.numbers) }
     ensures { (k : IntKind) → IsOf k n → answer_in k result ≡ checked k (wrapping k (pos p) +ℤ wrapping k (pos q)) }
 {
     let sum = turned(n, p) + turned(n, q);
     if sum < n.negatives {
-        return WordAnswer::Overflow;
+        return None;
     }
     let place = sum - n.negatives;
     if place < n.numbers {
-        return WordAnswer::Word(turned(n, place));
+        return Some(turned(n, place));
     }
-    WordAnswer::Overflow
+    None
 }
 
-pub fn sub_words(n: NarrowKind, p: u64, q: u64) -> WordAnswer
+pub fn sub_words(n: NarrowKind, p: u64, q: u64) -> Option<u64>
     requires { ((k : IntKind) × IsOf k n) × (p < n.numbers) × (q < n.numbers) }
     ensures { (k : IntKind) → IsOf k n → answer_in k result ≡ checked k (wrapping k (pos p) -ℤ wrapping k (pos q)) }
 {
     let sum = turned(n, p) + n.negatives;
     let y = turned(n, q);
     if sum < y {
-        return WordAnswer::Overflow;
+        return None;
     }
     let place = sum - y;
     if place < n.numbers {
-        return WordAnswer::Word(turned(n, place));
+        return Some(turned(n, place));
     }
-    WordAnswer::Overflow
+    None
 }
 
 // How far a place is from zero's.
@@ -121,7 +115,7 @@ fn magnitude(n: NarrowKind, x: u64) -> u64
     }
 }
 
-pub fn mul_words(n: NarrowKind, p: u64, q: u64) -> WordAnswer
+pub fn mul_words(n: NarrowKind, p: u64, q: u64) -> Option<u64>
     requires { ((k : IntKind) × IsOf k n) × (p < n.numbers) × (q < n.numbers) }
     ensures { (k : IntKind) → IsOf k n → answer_in k result ≡ checked k (wrapping k (pos p) *ℤ wrapping k (pos q)) }
 {
@@ -132,14 +126,14 @@ pub fn mul_words(n: NarrowKind, p: u64, q: u64) -> WordAnswer
     let t = y < n.negatives;
     if s == t {
         if product < n.numbers - n.negatives {
-            return WordAnswer::Word(turned(n, n.negatives + product));
+            return Some(turned(n, n.negatives + product));
         }
-        return WordAnswer::Overflow;
+        return None;
     }
     if product <= n.negatives {
-        return WordAnswer::Word(turned(n, n.negatives - product));
+        return Some(turned(n, n.negatives - product));
     }
-    WordAnswer::Overflow
+    None
 }
 
 // Which of two numbers is less.
@@ -147,61 +141,35 @@ pub fn order_words(n: NarrowKind, p: u64, q: u64) -> Ordering
     requires { ((k : IntKind) × IsOf k n) × (p < n.numbers) × (q < n.numbers) }
     ensures { (k : IntKind) → IsOf k n → result ≡ integer_order (wrapping k (pos p)) (wrapping k (pos q)) }
 {
-    let x = turned(n, p);
-    let y = turned(n, q);
-    if x < y {
-        Ordering::Less
-    } else if y < x {
-        Ordering::Greater
-    } else {
-        Ordering::Equal
-    }
+    turned(n, p).cmp(&turned(n, q))
 }
 
 // The same for two UInts, which need all 64 bits.
-pub fn add_u64(p: u64, q: u64) -> WordAnswer
+#[tactic(auto, using(crate::proofs::Places::wide_sum))]
+pub fn add_u64(p: u64, q: u64) -> Option<u64>
     ensures { wide_answer result ≡ checked U64 (pos p +ℤ pos q) }
 {
-    if p <= 0xffff_ffff_ffff_ffff - q {
-        WordAnswer::Word(p + q)
-    } else {
-        WordAnswer::Overflow
-    }
+    p.checked_add(q)
 }
 
-pub fn sub_u64(p: u64, q: u64) -> WordAnswer
+#[tactic(auto, using(crate::proofs::Places::wide_rest))]
+pub fn sub_u64(p: u64, q: u64) -> Option<u64>
     ensures { wide_answer result ≡ checked U64 (pos p -ℤ pos q) }
 {
-    if q <= p {
-        WordAnswer::Word(p - q)
-    } else {
-        WordAnswer::Overflow
-    }
+    p.checked_sub(q)
 }
 
-pub fn mul_u64(p: u64, q: u64) -> WordAnswer
+#[tactic(auto, using(crate::proofs::Places::wide_product))]
+pub fn mul_u64(p: u64, q: u64) -> Option<u64>
     ensures { wide_answer result ≡ checked U64 (pos p *ℤ pos q) }
 {
-    if p == 0 {
-        return WordAnswer::Word(0);
-    }
-    if q <= 0xffff_ffff_ffff_ffff / p {
-        WordAnswer::Word(p * q)
-    } else {
-        WordAnswer::Overflow
-    }
+    p.checked_mul(q)
 }
 
 pub fn order_u64(p: u64, q: u64) -> Ordering
     ensures { result ≡ integer_order (pos p) (pos q) }
 {
-    if p < q {
-        Ordering::Less
-    } else if q < p {
-        Ordering::Greater
-    } else {
-        Ordering::Equal
-    }
+    p.cmp(&q)
 }
 
 // The operations of IEEE 754 on two floats.

@@ -37,7 +37,7 @@ pub enum ComparisonFault {
 }
 
 // The eight integer kinds, by the Rust type that each holds.
-#[derive(Clone, Copy)]
+#[derive(Clone, Copy, PartialEq, Eq)]
 pub enum IntKind {
     I64,
     U64,

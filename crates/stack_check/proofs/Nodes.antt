@@ -13,7 +13,7 @@ use Rattle.definition.specs.Table as table
 use Rattle.definition.specs.Table.{added}
 use Rattle.definition.specs.Decode as definition
 use Rattle.definition.proofs.ChangeOfHeight.{rise, fall, added_by, added_sum, lessened, need_is, falls_covered}
-use Rattle.chunk.specs.Table.{flow_of, flow_number, flow_at}
+use Rattle.chunk.specs.Table.{flow_of}
 use Rattle.chunk.specs.Decode.{held}
 use Rattle.chunk.specs.Fault.{kinds_of}
 use Rattle.chunk.specs.declared.Flow.{Flow}
@@ -24,16 +24,6 @@ use Rattle.stack_check.specs.Node.{flow_effect, first_of, second_of, node_of, no
 use Rattle.stack_check.specs.Flat.{Changeable}
 use Rattle.stack_check.specs.declared.FlowEffect.{FlowEffect}
 use Rattle.stack_check.specs.declared.Node.{Node}
-
-pub flow_back : (f : table.Flow) → flow_at (flow_number f) ≡ flow_of f
-flow_back table.straight = refl
-flow_back table.opens = refl
-flow_back table.closes = refl
-flow_back table.forward = refl
-flow_back table.backward = refl
-flow_back table.forks = refl
-flow_back table.ends = refl
-flow_back table.may_end = refl
 
 opens_by : (f : Flow) → (flow_effect f).opens ≤ 1
 opens_by Straight = omega arith
@@ -115,13 +105,13 @@ second_same o table.may_end n a e = refl
 
 -- the node that the code makes, from what its calls gave
 pub node_is :
-    (i : Instr) (f : Flow) (t : FlowEffect) (x y : ℕ) (z : ℤ) → f ≡ flow_at i.row.flow → t ≡ flow_effect f → x ≡ first_of f i.next.at i.a
+    (i : Instr) (f : Flow) (t : FlowEffect) (x y : ℕ) (z : ℤ) → f ≡ i.row.flow → t ≡ flow_effect f → x ≡ first_of f i.next.at i.a
     → y ≡ second_of f i.next.at i.a
     → z ≡ i.row.change -ℤ pos (i.row.per * i.a)
     → NodeIs i (record { need = i.row.need + i.row.per * i.a; change = z; exact = t.exact; drops = t.drops; opens = t.opens; ends = t.ends; first = x; second = y })
 node_is i f t x y z ef et ex ey ez p d e =
     let o = d.op in
-    let g : f ≡ flow_of (table.row o).flow = ef ∙ ap flow_at (ap (λ (j : Instr). j.row.flow) e) ∙ flow_back (table.row o).flow in
+    let g : f ≡ flow_of (table.row o).flow = ef ∙ ap (λ (j : Instr). j.row.flow) e in
     let x₁ : x ≡ first_of (flow_of (table.row o).flow) (p + table.size o) d.a =
     ex ∙ rw (g, e) (first_same o (table.row o).flow (p + table.size o) d.a refl) in
     let y₁ : y ≡ second_of (flow_of (table.row o).flow) (p + table.size o) d.a =

@@ -169,7 +169,7 @@ fn node_of(i: Instr) -> Node
     let row = i.row;
     let next = i.next;
     let a = i.a;
-    let flow = chunk::flow_of(row.flow);
+    let flow = row.flow;
     let t = flow_effect(flow);
     let counted = row.per * a;
     Node {

@@ -1,6 +1,7 @@
 -- `stack_check::node_of` meets its contract: the numbers of an instruction are small, and its change less what is counted is a change. Assumes nothing.
 
 use native.Mathlib.Omega.{arith}
+use mathlib.Core.Path.{refl}
 use Prim.Native.Nat.{◌*◌}
 use Rattle.stack_check.proofs.Nodes.{node_is, limits}
 use Rattle.stack_check.proofs.Sums.{less_fits, less_back}
@@ -28,8 +29,7 @@ overflow_sub-result c =
 pub returns : goal.returns
 returns c =
     let flow_effect = c.flow_effect-t in
-    let flow_of = c.flow_of-flow in
     let i = c.args.i in
     let l = limits i c.requires in
-    node_is i _ _ _ _ _ flow_of.ensures flow_effect.ensures c.first_of.ensures c.second_of.ensures
+    node_is i _ _ _ _ _ refl flow_effect.ensures c.first_of.ensures c.second_of.ensures
     (less_back i.row.change (i.row.per * i.a) l.rises l.falls l.counted)

@@ -1,4 +1,4 @@
--- `number_operands::integers::number_of_word` meets its contract: each arm is the definition at its kind. Assumes nothing.
+-- Each arm is the definition at its kind: std's signed number of a word is its two's complement, by computing.
 
 use borrow.Author.Rules.{rules}
 use Rattle.std.proofs.Common.{◌≡◌, ℕ, pos, sym, refl, ap, ◌∙◌, to_z-of_z, w8, w16, w32, w64, rules}
@@ -17,8 +17,8 @@ pub returns-in-I64 : goal.returns-in-I64
 unfolding wrapping
 returns-in-I64 c =
     let args = c.args in
-    at args.n c.in-I64.is (ap Int (to_z-of_z {w = w64} {z = c.i64_of_word.result} (search
-    rules) ∙ c.i64_of_word.ensures ∙ ap (twos_complement 63) (word_pos args.n (search rules))))
+    at args.n c.in-I64.is (ap Int (to_z-of_z {w = w64} {z = c.cast_signed.result} (search
+    rules) ∙ c.cast_signed.ensures ∙ ap (twos_complement 63) (word_pos args.n (search rules))))
 
 pub returns-in-U64 : goal.returns-in-U64
 unfolding wrapping
@@ -30,8 +30,8 @@ pub returns-in-I32 : goal.returns-in-I32
 unfolding wrapping
 returns-in-I32 c =
     let args = c.args in
-    at args.n c.in-I32.is (ap SInt (to_z-of_z {w = w32} {z = c.i32_of_word.result}
-    (search rules) ∙ c.i32_of_word.ensures))
+    at args.n c.in-I32.is (ap SInt (to_z-of_z {w = w32} {z = c.cast_signed-in-I32.result}
+    (search rules) ∙ c.cast_signed-in-I32.ensures))
 
 pub returns-in-U32 : goal.returns-in-U32
 unfolding wrapping
@@ -49,8 +49,8 @@ pub returns-in-I8 : goal.returns-in-I8
 unfolding wrapping
 returns-in-I8 c =
     let args = c.args in
-    at args.n c.in-I8.is (ap SByte (to_z-of_z {w = w8} {z = c.i8_of_word.result}
-    (search rules) ∙ c.i8_of_word.ensures))
+    at args.n c.in-I8.is (ap SByte (to_z-of_z {w = w8} {z = c.cast_signed-in-I8.result}
+    (search rules) ∙ c.cast_signed-in-I8.ensures))
 
 pub returns-in-U16 : goal.returns-in-U16
 unfolding wrapping
@@ -62,5 +62,5 @@ pub returns-in-I16 : goal.returns-in-I16
 unfolding wrapping
 returns-in-I16 c =
     let args = c.args in
-    at args.n c.in-I16.is (ap BSByte (to_z-of_z {w = w16} {z = c.i16_of_word.result}
-    (search rules) ∙ c.i16_of_word.ensures))
+    at args.n c.in-I16.is (ap BSByte (to_z-of_z {w = w16} {z = c.cast_signed-in-I16.result}
+    (search rules) ∙ c.cast_signed-in-I16.ensures))
