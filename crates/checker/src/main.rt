@@ -6,17 +6,16 @@ mod lines; // the line of an answer
 
 ghost use Rattle.std.specs.Prelude.{List, ℕ, ◌≤◌, ◌<◌, length};
 ghost use Rattle.image_input.specs.Read.{ReadOf};
-ghost use Rattle.rl_check.specs.Check.{answer_of};
-ghost use Rattle.checker.specs.Line.{checker_line, Says};
+ghost use Rattle.checker.specs.Line.{Says};
 
 use image_input::read_input;
 use line_output::write_line;
-use lines::Line;
+use lines::{Line, line_of};
 use rl_vm::{IMAGE_MOST, check, least};
 
 // The line for an image.
 fn answer_line(image: &[u8]) -> Line
-    ensures { Says image.now (checker_line (answer_of result.0)) }
+    ensures { Says image.now result.bytes }
 {
     let mut bytes = [0u8; least::BYTES];
     let mut ends = [0usize; least::ENDS];
@@ -26,7 +25,7 @@ fn answer_line(image: &[u8]) -> Line
     let mut heights = [0usize; least::HEIGHTS];
     let mut depths = [0usize; least::DEPTHS];
     let mut todo = [0usize; least::TODO];
-    Line(check(
+    line_of(check(
         image,
         &mut bytes,
         &mut ends,
@@ -42,7 +41,7 @@ fn answer_line(image: &[u8]) -> Line
 // The line for the input of which the first n bytes of `read` were read. It is the same for every such input, also for one that is longer than `read`.
 fn input_line(read: &[u8], n: usize) -> Line
     requires { (65536 < length read.now) × (n ≤ length read.now) }
-    ensures { (input : List ℕ) → ReadOf read.now n input → Says input (checker_line (answer_of result.0)) }
+    ensures { (input : List ℕ) → ReadOf read.now n input → Says input result.bytes }
 {
     answer_line(&read[..n])
 }
@@ -51,11 +50,7 @@ fn main(rt: HostRuntime) {
     let mut read = [0u8; IMAGE_MOST + 1];
     let mut errors = rt.stderr();
     if let Some(n) = read_input(&mut rt.stdin(), &mut errors, "checker", &mut read).bytes() {
-        write_line(
-            &mut rt.stdout(),
-            &mut errors,
-            "checker",
-            input_line(&read, n),
-        );
+        let line = input_line(&read, n);
+        write_line(&mut rt.stdout(), &mut errors, "checker", line.as_str());
     }
 }

@@ -1,78 +1,106 @@
-// What the lines of the programs are made of: bytes in hexadecimal, a place, the line of a refusal; and how a line is written. Numbers and bytes look as
-// in the crate `definition`, specs/Runner.antt.
+// What the lines of the programs are made of: a number in decimal or padded with zeros to four digits, a place, bytes in hexadecimal, the line of a
+// refusal; and how a line is written. A piece is pushed behind those before it. Numbers and bytes look as in the crate `definition`, specs/Runner.antt.
 #![tactic(auto)]
 
-ghost use Rattle.std.specs.Prelude.{[], ◌∷◌, ◌++◌, Some, IfSome};
+ghost use Rattle.std.specs.Prelude.{◌≡◌, [], ◌∷◌, ◌++◌, ◌+◌, ◌-◌, ◌*◌, ◌/◌, ◌%◌, ◌≤◌, ◌<◌, length, replicate};
 ghost use Rattle.std.specs.Bool.{OnTrue};
 ghost use Rattle.std.specs.Io.KnownBytes.{Appends};
-ghost use Rattle.definition.specs.Runner.{ascii, decimal, padded, hex, words};
+ghost use Rattle.arrayvec.specs.ArrayString.{array_string_len};
+ghost use Rattle.definition.specs.Runner.{ascii, decimal, padded, hex_digit, hex, words};
 
 use arrayvec::ArrayString;
-use std::fmt;
-use std::fmt::{Display, Formatter, Write as TextWrite};
+use itoa::Buffer;
 use std::io::Write;
 
-// Bytes in upper-case hexadecimal, two digits each.
-#[derive(Clone, Copy)]
-pub struct Hex<'a>(pub &'a [u8]);
+// The decimal digits of n. There are at most 20.
+pub fn push_decimal<const N: usize>(line: &mut ArrayString<N>, n: usize)
+    requires { array_string_len line.old + 20 ≤ N }
+    ensures text { line.new.bytes ≡ line.old.bytes ++ decimal n }
+    ensures upper_bound { array_string_len line.new ≤ array_string_len line.old + 20 }
+{
+    let mut buffer = Buffer::new();
+    line.push_str(buffer.format(n));
+}
 
-impl Display for Hex<'_> {
-    ghost output = { λ h. Some (hex h.0.now) };
-
-    fn fmt<W: fmt::Write>(&self, f: &mut Formatter<W>) -> fmt::Result {
-        for &byte in self.0 {
-            write!(f, "{byte:02X}")?;
-        }
-        Ok(())
+// The zeros in front of these digits, up to four.
+fn missing_zeros(digits: &str) -> &str
+    ensures { result.now ≡ replicate (4 - length digits.now) 48 }
+{
+    match digits.len() {
+        0 => "0000",
+        1 => "000",
+        2 => "00",
+        3 => "0",
+        _ => "",
     }
 }
 
-// Where an image faults or a run stops: chunk and offset, each with zeros in front up to four digits.
-#[derive(Clone, Copy)]
-pub struct Place {
-    pub chunk: usize,
-    pub offset: usize,
+// The same, with zeros in front up to four digits.
+pub fn push_padded<const N: usize>(line: &mut ArrayString<N>, n: usize)
+    requires { array_string_len line.old + 20 ≤ N }
+    ensures text { line.new.bytes ≡ line.old.bytes ++ padded n }
+    ensures upper_bound { array_string_len line.new ≤ array_string_len line.old + 20 }
+{
+    let mut buffer = Buffer::new();
+    let digits = buffer.format(n);
+    line.push_str(missing_zeros(digits));
+    line.push_str(digits);
 }
 
-impl Display for Place {
-    ghost output = { λ p. Some (padded p.chunk ++ 32 ∷ padded p.offset) };
+// Where an image faults or a run stops: chunk and offset, each padded, one space between.
+pub fn push_place<const N: usize>(line: &mut ArrayString<N>, chunk: usize, offset: usize)
+    requires { array_string_len line.old + 41 ≤ N }
+    ensures text { line.new.bytes ≡ line.old.bytes ++ padded chunk ++ 32 ∷ padded offset }
+    ensures upper_bound { array_string_len line.new ≤ array_string_len line.old + 41 }
+{
+    push_padded(line, chunk);
+    line.push(' ');
+    push_padded(line, offset);
+}
 
-    fn fmt<W: fmt::Write>(&self, f: &mut Formatter<W>) -> fmt::Result {
-        let Place { chunk, offset } = *self;
-        write!(f, "{chunk:04} {offset:04}")
+fn hex_digit(n: u8) -> char
+    requires { n < 16 }
+    ensures digit { result ≡ hex_digit n }
+    ensures ascii { result < 128 }
+{
+    char::from(if n < 10 { 48 + n } else { 55 + n })
+}
+
+// The bytes in upper-case hexadecimal, two digits each.
+pub fn push_hex<const N: usize>(line: &mut ArrayString<N>, bytes: &[u8])
+    requires { array_string_len line.old + 2 * length bytes.now ≤ N }
+    ensures text { line.new.bytes ≡ line.old.bytes ++ hex bytes.now }
+    ensures len { array_string_len line.new ≡ array_string_len line.old + 2 * length bytes.now }
+{
+    for &byte in bytes {
+        line.push(hex_digit(byte / 16));
+        line.push(hex_digit(byte % 16));
     }
 }
 
-// The line `refused NUMBER LINE`, the same in both programs.
-#[derive(Clone, Copy)]
-pub struct RefusedLine {
-    pub number: usize,
-    pub line: usize,
+// The line `refused NUMBER LINE`, the same in both programs. It has at most 50 bytes.
+pub fn push_refused<const N: usize>(line: &mut ArrayString<N>, number: usize, refused_line: usize)
+    requires { array_string_len line.old + 50 ≤ N }
+    ensures { line.new.bytes ≡ line.old.bytes ++ words (ascii "refused" ∷ decimal number ∷ decimal refused_line ∷ []) }
+{
+    line.push_str("refused ");
+    push_decimal(line, number);
+    line.push(' ');
+    push_decimal(line, refused_line);
+    line.push('\n');
 }
 
-impl Display for RefusedLine {
-    ghost output = { λ r. Some (words (ascii "refused" ∷ decimal r.number ∷ decimal r.line ∷ [])) };
-
-    fn fmt<W: fmt::Write>(&self, f: &mut Formatter<W>) -> fmt::Result {
-        let RefusedLine { number, line } = *self;
-        writeln!(f, "refused {number} {line}")
-    }
-}
-
-// The longest line has this many bytes at most: that of a value of 4,096 bytes, two digits each, behind its count.
-const LONGEST_LINE: usize = 8224;
-
-// Writes a line to the output, whole and by one write, so that two programs that share an output do not mix their lines, and answers whether it took the line. Where it did not, that is said on `errors`, behind the program's name.
-pub fn write_line<W: Write, E: Write, D: Display + Drop>(
+// Writes a line to the output, whole and by one write, so that two programs that share an output do not mix their lines, and answers whether it took the
+// line. Where it did not, that is said on `errors`, behind the program's name.
+pub fn write_line<W: Write, E: Write>(
     output: &mut W,
     errors: &mut E,
     name: &str,
-    line: D,
+    line: &str,
 ) -> bool
-    ensures { OnTrue result (IfSome (D.output line) (Appends (W.contents output.old) (W.contents output.new))) }
+    ensures { OnTrue result (Appends (W.contents output.old) (W.contents output.new) line.now) }
 {
-    let mut text = ArrayString::<LONGEST_LINE>::new();
-    if write!(text, "{line}").is_ok() && output.write_all(text.as_bytes()).is_ok() {
+    if output.write_all(line.as_bytes()).is_ok() {
         return true;
     }
     let _ = writeln!(errors, "{name}: the line could not be written");

@@ -1,46 +1,20 @@
--- From the pieces to the line, and from the answer to the definition's.
-use mathlib.Core.Path.{◌≡◌, sym, ap, ◌∙◌}
+-- From the line of an answer to the line of the definition's answer.
+use mathlib.Core.Path.{◌≡◌, ap, ◌∙◌}
 use mathlib.Core.Bool.{false}
-use mathlib.Core.List.{List, [], ◌∷◌, ◌++◌, append_assoc}
-use Prim.Native.Nat.{ℕ, ◌^◌, ◌≤◌, ◌<◌}
+use mathlib.Core.List.{List}
+use Prim.Native.Nat.{ℕ, ◌≤◌, ◌<◌}
 use native.Mathlib.Omega.{arith}
 use borrow.Author.Tests.{le-ltb}
 use lib.ListN.{length, take}
-use Rattle.std.specs.Fmt as shown
-use Rattle.line_output.proofs.Shown.{decimal_shown}
 use Rattle.definition.specs.Lines.{Load}
 use Rattle.definition.specs.Answers as definition
-use Rattle.definition.specs.Runner.{ascii, decimal, padded, hex, words, answer_line, runner_line}
+use Rattle.definition.specs.Runner.{answer_line, runner_line}
 use Rattle.image.specs.Answer.{Slices}
-use Rattle.vm_acts.specs.Reasons.{reason_number}
-use Rattle.vm_acts.specs.declared.Stopped.{Stopped}
 use Rattle.run_answers.specs.Run.{Own, any_short, run_short, RunAnswered}
 use Rattle.run_answers.specs.declared.RunAnswer.{RunAnswer}
-use Rattle.run_answers.specs.declared.RunAnswer.TheVariants.{Value, Stop}
 use Rattle.image_input.specs.Read.{ReadOf}
 use Rattle.image_input.proofs.Parts.{same_load}
 use Rattle.runner.specs.Line.{line_of}
-
--- what the program writes of a value, and of a stop, is its line
-module _ (a : RunAnswer) (l : List ℕ) where
-  pub value_line :
-      (n size : ℕ) → a ≡ Value n size → n < 2 ^ 64 → ascii "value " ++ (shown.decimal n ++ (32 ∷ (hex (take size l) ++ (10 ∷ [])))) ≡ line_of a l
-  value_line n size q h =
-      ap (λ (d : List ℕ). ascii "value " ++ (d ++ (32 ∷ (hex (take size l) ++ (10 ∷ []))))) (decimal_shown n h)
-      ∙ ap (λ (x : RunAnswer). line_of x l) (sym q)
-
-  pub stop_line :
-      (s : Stopped) (n k : ℕ) → a ≡ Stop s → n ≡ reason_number s.reason → k ≡ s.count → n < 2 ^ 64 → k < 2 ^ 64
-      → ascii "stop " ++ (shown.decimal n ++ (32 ∷ (shown.decimal k ++ (32 ∷ ((padded s.chunk ++ (32 ∷ padded s.offset)) ++ (10 ∷ []))))))
-      ≡ line_of a l
-  stop_line s n k q m e h g =
-      let place = (padded s.chunk ++ (32 ∷ padded s.offset)) ++ (10 ∷ []) in
-      ap (λ (d : List ℕ). ascii "stop " ++ (d ++ (32 ∷ (shown.decimal k ++ (32 ∷ place))))) (decimal_shown n h)
-      ∙ ap (λ (d : List ℕ). ascii "stop " ++ (decimal n ++ (32 ∷ (d ++ (32 ∷ place))))) (decimal_shown k g)
-      ∙ ap (λ (x : ℕ). ascii "stop " ++ (decimal n ++ (32 ∷ (decimal x ++ (32 ∷ place))))) e
-      ∙ ap (λ (x : List ℕ). ascii "stop " ++ (decimal n ++ (32 ∷ (decimal s.count ++ (32 ∷ x))))) (append_assoc (padded s.chunk) (32 ∷ padded s.offset) (10 ∷ []))
-      ∙ ap (λ (x : ℕ). words (ascii "stop" ∷ decimal x ∷ decimal s.count ∷ padded s.chunk ∷ padded s.offset ∷ [])) m
-      ∙ ap (λ (x : RunAnswer). line_of x l) (sym q)
 
 -- slices of the lengths that `run` asks for
 not_short :

@@ -7,11 +7,10 @@ mod lines; // the line of an answer
 ghost use Rattle.std.specs.Prelude.{◌≡◌, List, ℕ, ◌≤◌, ◌<◌, length};
 ghost use Rattle.definition.specs.Runner.{runner_line};
 ghost use Rattle.image_input.specs.Read.{ReadOf};
-ghost use Rattle.runner.specs.Line.{line_of};
 
 use image_input::read_input;
 use line_output::write_line;
-use lines::{Line, RESULT};
+use lines::{Line, RESULT, line_of};
 use rl_vm::{IMAGE_MOST, least, run};
 
 // How many instructions a run may begin: document 01 says it of the runner.
@@ -19,7 +18,7 @@ const BUDGET: usize = 1_000_000;
 
 // The line for an image.
 fn answer_line(image: &[u8]) -> Line
-    ensures { line_of result.answer result.result ≡ runner_line image.now }
+    ensures { result.bytes ≡ runner_line image.now }
 {
     let mut result = [0u8; RESULT];
     let mut bytes = [0u8; least::BYTES];
@@ -53,13 +52,13 @@ fn answer_line(image: &[u8]) -> Line
         &mut cells,
         &mut memo,
     );
-    Line { answer, result }
+    line_of(answer, &result)
 }
 
 // The line for the input of which the first n bytes of `read` were read. It is the same for every such input, also for one that is longer than `read`.
 fn input_line(read: &[u8], n: usize) -> Line
     requires { (65536 < length read.now) × (n ≤ length read.now) }
-    ensures { (input : List ℕ) → ReadOf read.now n input → line_of result.answer result.result ≡ runner_line input }
+    ensures { (input : List ℕ) → ReadOf read.now n input → result.bytes ≡ runner_line input }
 {
     answer_line(&read[..n])
 }
@@ -68,11 +67,7 @@ fn main(rt: HostRuntime) {
     let mut read = [0u8; IMAGE_MOST + 1];
     let mut errors = rt.stderr();
     if let Some(n) = read_input(&mut rt.stdin(), &mut errors, "runner", &mut read).bytes() {
-        write_line(
-            &mut rt.stdout(),
-            &mut errors,
-            "runner",
-            input_line(&read, n),
-        );
+        let line = input_line(&read, n);
+        write_line(&mut rt.stdout(), &mut errors, "runner", line.as_str());
     }
 }

@@ -5,5 +5,6 @@ use Rattle.checker.proofs.answer_line.Goals as goal
 
 pub returns : goal.returns
 returns c =
-    says c.args.image.now _ c.check.result c.check.ensures.answer
+    says c.args.image.now _ _ c.check.result c.check.ensures.answer
     (not_short _ (search rules) (search rules) (search rules) (search rules) (search rules) (search rules) (search rules) (search rules))
+    c.line_of.ensures
