@@ -29,6 +29,11 @@ with tempfile.TemporaryDirectory() as old:
             given.add((path.parts[0], "/".join(path.parts[1:]), name))
 
 
+def short(name):
+    """Crate and function without the file, which may be gone."""
+    return " ".join(w for w in name.rsplit(" (", 1)[0].split() if "/" not in w)
+
+
 def text(it):
     return " ".join(" ".join(map(str, it)).split()) if isinstance(it, list) else " ".join(str(it).split())
 
@@ -54,9 +59,9 @@ def is_given(name):
 
 
 public = [row for row in found["signatures changed"] if is_given(row[0])]
-beside("Signatures of public functions:", [(row[0], [text(row[1])], [text(row[2])]) for row in public])
+beside("Signatures of public functions:", [(short(row[0]), [text(row[1])], [text(row[2])]) for row in public])
 beside("Clauses, of private functions too:", [
-    (row[0], clauses("requires", row[1]) + clauses("ensures", row[2]), clauses("requires", row[3]) + clauses("ensures", row[4]))
+    (short(row[0]), clauses("requires", row[1]) + clauses("ensures", row[2]), clauses("requires", row[3]) + clauses("ensures", row[4]))
     for row in found["contracts changed"]])
 for label, title in (("ghost items and constants", "Ghost items and constants:"), ("definitions", "Definitions:")):
     rows = [(" ".join(row[:-2]), [text(row[-2])], [text(row[-1])]) for row in found[label]["changed"]]
@@ -64,4 +69,4 @@ for label, title in (("ghost items and constants", "Ghost items and constants:")
     gone = [" ".join(row) for row in found[label]["gone"]]
     if gone:
         print(f"\nGone: {', '.join(f'`{it}`' for it in gone)}.")
-print(f"\nFunctions that are not found again: {', '.join(f'`{it.rsplit(chr(32) + chr(40), 1)[0]}`' for it in found['functions not found again'])}.")
+print(f"\nFunctions that are not found again: {', '.join(f'`{short(it)}`' for it in found['functions not found again'])}.")
