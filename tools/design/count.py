@@ -68,6 +68,20 @@ def parts(fields):
     return [it for it in [*out, word.strip()] if it]
 
 
+def parameters(body):
+    """The parameters of a function, whose generics may hold brackets of their own."""
+    k = re.match(r"fn \w+", body).end()
+    depth = 0
+    while depth or body[k] != "(":
+        depth += {"<": 1, ">": 0 if body[k - 1] == "-" else -1}.get(body[k], 0)
+        k += 1
+    inside, depth, k = k + 1, 1, k + 1
+    while depth:
+        depth += {"(": 1, ")": -1}.get(body[k], 0)
+        k += 1
+    return parts(body[inside:k - 1])
+
+
 SOURCES = {str(p): p.read_text() for p in sorted(pathlib.Path("crates").glob("*/src/**/*.rt"))}
 CODE = {p: bare(t) for p, t in SOURCES.items()}
 
@@ -117,13 +131,9 @@ def point5():
     facts = defaultdict(set)
     for path, text in CODE.items():
         for name, line, body in functions(text):
-            m = re.search(r"fn \w+(?:<[^(]*>)?\(", body)
-            inside, depth, k = m.end(), 1, m.end()
-            while depth:
-                depth += {"(": 1, ")": -1}.get(body[k], 0)
-                k += 1
-            if len(parts(body[inside:k - 1])) >= 8:
-                yield path, line, f"fn {name}: {len(parts(body[inside:k - 1]))} parameters"
+            given = len(parameters(body))
+            if given >= 8:
+                yield path, line, f"fn {name}: {given} parameters"
     for path, text in SOURCES.items():
         for m in re.finditer(r"requires(?: \w+)? \{(.*?)\}\n", text, re.S):
             for fact in m.group(1).split("×"):
