@@ -158,12 +158,12 @@ impl Log {
     }
 }
 
-/// Whether a line tells an error, and not only that what rests on another one was not checked.
 /// Whether what is said of a function is that it is not proved.
 fn is_unproved(verdict: &str) -> bool {
     verdict.starts_with("not proved") || verdict.starts_with("no proof")
 }
 
+/// Whether a line tells an error, and not only that what rests on another one was not checked.
 fn is_error(line: &str) -> bool {
     let rests = ["was not admitted", "were not checked", "was not checked"];
     line.contains(": error") && !rests.iter().any(|words| line.contains(words))
