@@ -6,7 +6,7 @@ ghost use Rattle.rl_check.specs.Numbers.{AreNumbersOf};
 use crate::CheckAnswer;
 use load_answers::refusal_number;
 
-// A function, and no `From`: that would have to stand in `stack_check`, which knows the numbers in its specs/ alone.
+// Document 01's number of a fault.
 pub fn fault_number(r: stack_check::Reason) -> usize
     ensures { result ≡ reason_number r }
 {
