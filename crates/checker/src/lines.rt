@@ -7,7 +7,7 @@ ghost use Rattle.checker.specs.Line.{checker_line};
 
 use arrayvec::ArrayString;
 use line_output::{push_decimal, push_place, push_refused};
-use rl_vm::{CheckAnswer, fault_number, refusal_number};
+use rl_vm::CheckAnswer;
 
 // A line of the checker. The longest is that of a fault, with three numbers of 20 digits at most.
 pub type Line = ArrayString<96>;
@@ -29,11 +29,11 @@ pub fn line_of(answer: CheckAnswer) -> Line
 {
     let mut line = Line::new();
     match answer {
-        CheckAnswer::Refused(reason, at) => push_refused(&mut line, refusal_number(reason), at),
+        CheckAnswer::Refused(reason, at) => push_refused(&mut line, usize::from(reason), at),
         CheckAnswer::Pass => line.push_str("pass\n"),
         CheckAnswer::Fault(reason, chunk, offset) => push_fault(
             &mut line,
-            fault_number(reason),
+            usize::from(reason),
             chunk,
             offset,
         ),

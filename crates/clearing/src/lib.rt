@@ -1,7 +1,33 @@
-// Work memory back to zero, to the end of each slice.
+// Work memory: room in a slice that the caller lends, and back to zero to the end of each slice.
 #![tactic(auto)]
 
-ghost use Rattle.std.specs.Prelude.{◌≡◌, ℕ, get_or};
+ghost use Rattle.std.specs.Prelude.{◌≡◌, ◌≤◌, List, ℕ, length, get_or};
+
+use std::marker::Model;
+
+// Room for N elements at least, in a slice that the caller lends. In a contract a room is the list of all its elements.
+#[derive(Drop)]
+pub struct Room<'a, T, const N: usize> {
+    pub items: &'a mut [T],
+}
+
+impl<'a, T, const N: usize> Model for Room<'a, T, N> {
+    ghost Value = { List T };
+
+    ghost view = { λ room. room.items.now };
+
+    ghost invariant = { λ room. N ≤ length room.items.now };
+}
+
+impl<'a, T, const N: usize> Room<'a, T, N> {
+    // All that was lent, to be read.
+    pub fn all(&self) -> &[T]
+        ensures same { result.now ≡ self.now }
+        ensures long { N ≤ length result.now }
+    {
+        self.items
+    }
+}
 
 // What an element of work memory is: a number, whose zero a cleared slice holds throughout.
 pub trait Zero: Copy {

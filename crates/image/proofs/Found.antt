@@ -8,7 +8,7 @@ use native.Mathlib.Nat.{not-suc-le-zero}
 use native.Mathlib.Omega.{arith}
 use lib.ListN.{length, get_or, take, drop, length-append, length-take, length-drop, get_or-map}
 use lib.Seq.{get_or-take, get_or-drop, take-take, length-take-le}
-use Rattle.definition.specs.Image.{Chunk, chunk_at, text_at}
+use Rattle.definition.specs.Image.{Chunk, Image, chunk_at, text_at}
 use Rattle.definition.specs.Lines.{Load, image, refused, constants_of, load_image}
 use Rattle.definition.specs.Loaded.{no_constant}
 use Rattle.definition.proofs.Keeps.{loads_kept}
@@ -228,6 +228,14 @@ loaded_as bytes m m' n false (image im) s l e =
       kept = loads_kept bytes im (sym l);
     }
 loaded_as bytes m m' n false (refused k j) s l e = never (cc)
+
+-- each chunk has its row
+pub rows_within : {m : Slices} {n : Counts} {im : Image} → Held m n im → 4 * n.chunks ≤ length m.table
+rows_within {m} {n} H = go n.chunks refl
+  where
+    go : (k : ℕ) → n.chunks ≡ k → 4 * k ≤ length m.table
+    go zero e = omega arith
+    go (suc k) e = let h = (H.chunks_held k (omega (arith, H.chunk_count))).row_within in omega arith
 
 pub found : (bytes : List ℕ) (m m' : Slices) (r : LoadAnswer) (n : Counts) → r ≡ Ok n → Loads bytes m r m' → Found bytes m m' n
 unfolding load_in

@@ -465,18 +465,16 @@ fault_line image B out post e k p t s at end n tag ln f small room order h item 
 -- between two lines: m₀ are the slices as they were at first
 pub record Reading (image : List ℕ) (m₀ m : Slices) (s : State) (at k : ℕ) : Type 0 where
   pub here : goes (split (drop at image)) (parts_of s m) k ≡ load_of image
-  pub roomy : LoadRoomy m
   pub sized : Sized s at
   pub within : at ≤ length image
   pub counted : k ≤ at
   pub behind : BehindState s m₀ m
 
-pub reading_start : (image : List ℕ) (m : Slices) → length image ≤ 65536 → LoadRoomy m → Reading image m m none_yet 0 0
+pub reading_start : (image : List ℕ) (m : Slices) → length image ≤ 65536 → Reading image m m none_yet 0 0
 unfolding load_of
-reading_start image m h r =
+reading_start image m h =
     record {
       here = rw (le-leb (length image) 65536 h);
-      roomy = r;
       sized = record {
         few_bytes = omega arith;
         few_constants = omega arith;
@@ -491,44 +489,22 @@ reading_start image m h r =
       behind = behind_same 32768 0 0 0 m;
     }
 
--- slices of the same lengths
-pub record SameLengths (m m' : Slices) : Type 0 where
-  pub long_bytes : length m'.bytes ≡ length m.bytes
-  pub long_ends : length m'.ends ≡ length m.ends
-  pub long_kinds : length m'.kinds ≡ length m.kinds
-  pub long_payloads : length m'.payloads ≡ length m.payloads
-  pub long_table : length m'.table ≡ length m.table
-
-roomy_kept : (m m' : Slices) → SameLengths m m' → LoadRoomy m → LoadRoomy m'
-roomy_kept m m' l r =
-    record {
-      room_bytes = rw l.long_bytes r.room_bytes;
-      room_ends = rw l.long_ends r.room_ends;
-      room_kinds = rw l.long_kinds r.room_kinds;
-      room_payloads = rw l.long_payloads r.room_payloads;
-      room_table = rw l.long_table r.room_table;
-    }
-
 module _
     (image : List ℕ) (m₀ m m' : Slices) (s : State) (at k : ℕ) (u : AfterLine)
     (was : Reading image m₀ m s at k) (took : TakesLine image s at k m u m')
   where
-    pub reading_next : (t : State) (next : ℕ) → u ≡ Ok (Next t next) → SameLengths m m' → Reading image m₀ m' t next (k + 1)
-    reading_next t next q l =
+    pub reading_next : (t : State) (next : ℕ) → u ≡ Ok (Next t next) → Reading image m₀ m' t next (k + 1)
+    reading_next t next q =
         let f = rw q at took.fits in
         let b = rw q at took.left in
         let g = was.counted in
         record {
           here = (rw q at took.after) ∙ was.here;
-          roomy = roomy_kept m m' l was.roomy;
           sized = f.0;
           within = f.2;
           counted = omega (arith, f.1);
           behind = behind_next s t m₀ m m' was.behind b.0 b.1;
         }
-
-    pub next_less : (t : State) (next : ℕ) → u ≡ Ok (Next t next) → length image - next < length image - at
-    next_less t next q = let f = rw q at took.fits in omega (arith, f.1, f.2)
 
     pub reading_ready : (t : State) → u ≡ Ok (Ready t) → LoadsLines image m₀ (Ok (counts_in t)) m'
     reading_ready t q =
@@ -635,11 +611,7 @@ loads_long image m r h =
     apart : length image ≤ 65536 → ⊥
     apart g = omega arith
 
--- a loaded image stays, a refused one is blanked; behind the named lengths the slices were the same before that
-pub settled_loaded : (image : List ℕ) (m m₁ : Slices) (r : LoadAnswer) → LoadsLines image m r m₁ → is_err r ≡ false → LoadsSettled image m r m₁
-settled_loaded image m m₁ (Ok n) l e = record { lines = l; blank = tt }
-settled_loaded image m m₁ (Err f) l e = true_not_false e
-
+-- a refused image is blanked; behind the named lengths the slices were the same before that
 pub settled_refused : (image : List ℕ) (m m₁ m₂ : Slices) (r : LoadAnswer) → LoadsLines image m r m₁ → is_err r ≡ true → m₂ ≡ blanked m₁ → LoadsSettled image m r m₂
 settled_refused image m m₁ m₂ (Ok n) l e b = false_not_true e
 settled_refused image m m₁ m₂ (Err f) l e b =
@@ -661,3 +633,9 @@ loads_whole image m m' r roomy h e l =
   where
     apart : 65536 < length image → ⊥
     apart q = omega arith
+
+-- the same of the slices that the tables were made of
+pub loads_in :
+    {image : List ℕ} {m : Slices} {r : LoadAnswer} {b e k p t e' k' p' t' : List ℕ} → e' ≡ e → k' ≡ k → p' ≡ p → t' ≡ t → Loads image m r (slices b e k p t)
+    → Loads image m r (slices b e' k' p' t')
+loads_in q s u v l = rw (q, s, u, v) l

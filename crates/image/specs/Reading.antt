@@ -10,7 +10,8 @@ use Rattle.image_store.specs.Stored.{advance, new_ends, new_kinds, new_payloads,
 use Rattle.image_store.specs.declared.Progress.{Progress}
 use Rattle.image_store.specs.declared.Progress.TheVariants.{Next, Ready}
 use Rattle.image_store.specs.declared.Refusal.{Refusal}
-use Rattle.image.specs.Answer.{Slices, Outcome, holds, refuses, outcome_of, Behind, BehindMost, Left, Blanked, LoadAnswer}
+use Rattle.image_store.specs.declared.Tables.{Tables}
+use Rattle.image.specs.Answer.{Slices, slices, Outcome, holds, refuses, outcome_of, Behind, BehindMost, Left, Blanked, LoadAnswer}
 use Rattle.image.specs.declared.Counts.{Counts}
 
 -- what was read so far: the numbers, and what the slices hold of it
@@ -94,7 +95,11 @@ held_by s m =
 abbrev pub parts_of : State → Slices → Parts
 parts_of s m = record { numbers = s; held = held_by s m }
 
--- the lengths that the work slices have to have
+-- the five work slices: the bytes, and the tables
+abbrev pub work : List ℕ → Tables → Slices
+work b t = slices b t.ends.now t.kinds.now t.payloads.now t.table.now
+
+-- the lengths that the work slices have to have; those of `Tables` have them
 pub record LoadRoomy (m : Slices) : Type 0 where
   pub room_bytes : 32768 ≤ length m.bytes
   pub room_ends : 256 ≤ length m.ends

@@ -3,17 +3,20 @@
 #![tactic(auto)]
 
 pub mod least; // the least lengths of the work slices
+mod loaded; // a loaded image, to be read
 
 ghost use Rattle.std.specs.Prelude.{◌≡◌, ◌≤◌, ◌<◌, length, is_err};
 ghost use Rattle.image.specs.Answer.{slices, blanked, Loads};
-ghost use Rattle.image.specs.Reading.{LoadRoomy, Sized, TakesLine, LoadsLines, LoadsSettled};
+ghost use Rattle.image.specs.Reading.{work, Sized, TakesLine, LoadsLines, LoadsSettled};
+ghost use Rattle.image_store.specs.Tables.{SameTables};
 
 use clearing::clear;
 pub use image_records::Reason;
 use image_records::{Part, State, record_of};
 pub use image_store::Refusal;
-use image_store::{Progress, accept, finish};
+use image_store::{Progress, Tables, finish};
 use line_digits::{line_end, read_line};
+pub use loaded::Loaded;
 
 // How much of the slices an image fills, or why it is refused.
 pub type LoadAnswer = Result<Counts, Refusal>;
@@ -35,16 +38,14 @@ pub struct Counts {
 fn take_line(
     image: &[u8],
     bytes: &mut [u8],
-    ends: &mut [usize],
-    kinds: &mut [u8],
-    payloads: &mut [u64],
-    table: &mut [usize],
+    tables: &mut Tables,
     s: State,
     at: usize,
     k: usize,
 ) -> Result<Progress, Refusal>
-    requires { (at < length image.now) × (length image.now ≤ 65536) × (k ≤ at) × LoadRoomy (slices bytes.old ends.old kinds.old payloads.old table.old) × Sized s at }
-    ensures { TakesLine image.now s at k (slices bytes.old ends.old kinds.old payloads.old table.old) result (slices bytes.new ends.new kinds.new payloads.new table.new) }
+    requires { (at < length image.now) × (length image.now ≤ 65536) × (k ≤ at) × (32768 ≤ length bytes.old) × Sized s at }
+    ensures takes { TakesLine image.now s at k (work bytes.old tables.old) result (work bytes.new tables.new) }
+    ensures same { SameTables tables.old tables.new }
 {
     let end = line_end(image, at);
     if end == image.len() {
@@ -59,22 +60,16 @@ fn take_line(
         Ok(r) => r,
         Err(reason) => return Err(Refusal::at_line(reason, k + 1)),
     };
-    let t = accept(s, r, line.size, ends, kinds, payloads, table);
+    let t = tables.accept(s, r, line.size);
     let next = end + 1;
     finish(r, t, next, image.len() - next)
 }
 
 // Reads all lines.
-fn load_lines(
-    image: &[u8],
-    bytes: &mut [u8],
-    ends: &mut [usize],
-    kinds: &mut [u8],
-    payloads: &mut [u64],
-    table: &mut [usize],
-) -> LoadAnswer
-    requires { (length image.now ≤ 65536) × LoadRoomy (slices bytes.old ends.old kinds.old payloads.old table.old) }
-    ensures { LoadsLines image.now (slices bytes.old ends.old kinds.old payloads.old table.old) result (slices bytes.new ends.new kinds.new payloads.new table.new) }
+fn load_lines(image: &[u8], bytes: &mut [u8], tables: &mut Tables) -> LoadAnswer
+    requires { (length image.now ≤ 65536) × (32768 ≤ length bytes.old) }
+    ensures loads { LoadsLines image.now (work bytes.old tables.old) result (work bytes.new tables.new) }
+    ensures same { SameTables tables.old tables.new }
 {
     let mut s = State {
         part: Part::InTexts,
@@ -89,8 +84,9 @@ fn load_lines(
     };
     let mut at = 0;
     let mut k = 0;
+    // No `for`: `at` goes from line to line, and how long a line is only its reading says.
     while at < image.len() {
-        match take_line(image, bytes, ends, kinds, payloads, table, s, at, k)? {
+        match take_line(image, bytes, tables, s, at, k)? {
             Progress::Next { state, at: next } => {
                 s = state;
                 at = next;
@@ -113,21 +109,16 @@ fn load_lines(
 }
 
 // Zero up to each slice's named length, which is all that reading an image may have written.
-fn blank(
-    bytes: &mut [u8],
-    ends: &mut [usize],
-    kinds: &mut [u8],
-    payloads: &mut [u64],
-    table: &mut [usize],
-)
-    requires { LoadRoomy (slices bytes.old ends.old kinds.old payloads.old table.old) }
-    ensures { slices bytes.new ends.new kinds.new payloads.new table.new ≡ blanked (slices bytes.old ends.old kinds.old payloads.old table.old) }
+fn blank(bytes: &mut [u8], tables: &mut Tables)
+    requires { 32768 ≤ length bytes.old }
+    ensures zero { work bytes.new tables.new ≡ blanked (work bytes.old tables.old) }
+    ensures same { SameTables tables.old tables.new }
 {
     clear(&mut bytes[..least::BYTES]);
-    clear(&mut ends[..least::ENDS]);
-    clear(&mut kinds[..least::KINDS]);
-    clear(&mut payloads[..least::PAYLOADS]);
-    clear(&mut table[..least::TABLE]);
+    clear(&mut tables.ends[..least::ENDS]);
+    clear(&mut tables.kinds[..least::KINDS]);
+    clear(&mut tables.payloads[..least::PAYLOADS]);
+    clear(&mut tables.table[..least::TABLE]);
 }
 
 // Whether nothing may stay in the slices. By itself, so that wrong/read_stays_after_4.edit can turn it and nothing else.
@@ -138,26 +129,21 @@ fn is_refused(answer: &LoadAnswer) -> bool
 }
 
 // An image that is not too long, in slices that are long enough. Of a refused one nothing stays in them.
-fn load_roomy(
-    image: &[u8],
-    bytes: &mut [u8],
-    ends: &mut [usize],
-    kinds: &mut [u8],
-    payloads: &mut [u64],
-    table: &mut [usize],
-) -> LoadAnswer
-    requires { (length image.now ≤ 65536) × LoadRoomy (slices bytes.old ends.old kinds.old payloads.old table.old) }
-    ensures { LoadsSettled image.now (slices bytes.old ends.old kinds.old payloads.old table.old) result (slices bytes.new ends.new kinds.new payloads.new table.new) }
+fn load_roomy(image: &[u8], bytes: &mut [u8], tables: &mut Tables) -> LoadAnswer
+    requires { (length image.now ≤ 65536) × (32768 ≤ length bytes.old) }
+    ensures settled { LoadsSettled image.now (work bytes.old tables.old) result (work bytes.new tables.new) }
+    ensures same { SameTables tables.old tables.new }
 {
-    let answer = load_lines(image, bytes, ends, kinds, payloads, table);
+    let answer = load_lines(image, bytes, tables);
     if is_refused(&answer) {
-        blank(bytes, ends, kinds, payloads, table);
+        blank(bytes, tables);
     }
     answer
 }
 
 // Load: the image, judged and decoded into the work slices, or the reason and the line of the refusal. What an image fills of each slice, and
-// what the slices hold besides, is said in specs/Answer.antt; how a caller finds a chunk and a text in them, in specs/Held.antt.
+// what the slices hold besides, is said in specs/Answer.antt; how a caller finds a chunk and a text in them, in specs/Held.antt. The slices are five, of any
+// length, as the C interface lends them.
 pub fn load(
     image: &[u8],
     bytes: &mut [u8],
@@ -185,5 +171,11 @@ pub fn load(
             line: 0,
         });
     }
-    load_roomy(image, bytes, ends, kinds, payloads, table)
+    let mut tables = Tables {
+        ends,
+        kinds,
+        payloads,
+        table,
+    };
+    load_roomy(image, bytes, &mut tables)
 }

@@ -6,14 +6,14 @@ ghost use Rattle.image.specs.Answer.{slices};
 ghost use Rattle.image_bench.specs.Exported.{code_of, Exported};
 
 use image::{LoadAnswer, load};
-use load_answers::refusal_number;
 
+// An answer as a number, for Rust to link.
 fn code_of(a: LoadAnswer) -> u64
     ensures { result ≡ code_of a }
 {
     match a {
         Ok(_) => 0,
-        Err(refusal) => refusal_number(refusal.reason) as u64,
+        Err(refusal) => usize::from(refusal.reason) as u64,
     }
 }
 

@@ -41,6 +41,7 @@ fn read_all<R: Read>(input: &mut R, buf: &mut [u8]) -> Reading
     ensures holds { Holds (R.remaining input.old) buf.new result.at result.end }
 {
     let mut at = 0;
+    // No `for`: how many bytes a read brings, and which is the last, is only known when it was made.
     let end = loop {
         if at == buf.len() {
             break End::Buffer;

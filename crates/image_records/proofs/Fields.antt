@@ -1,33 +1,30 @@
--- Laws on the fields of a line: printable bytes, numbers of several bytes, and how wide a payload is.
-use mathlib.Core.Path.{◌≡◌, refl}
+-- Laws on a line: printable bytes, numbers of several bytes, kinds and first bytes that are none.
+use mathlib.Core.Path.{◌≡◌, refl, sym}
 use mathlib.Core.Bool.{Bool, true, false, ◌&&◌}
-use mathlib.Core.List.{List, [], ◌∷◌}
-use Prim.Native.Nat.{ℕ, zero, suc, ◌+◌, ◌*◌, ◌^◌, ◌≤◌, ◌<◌}
+use mathlib.Core.List.{List}
+use Prim.Native.Nat.{ℕ, ◌+◌, ◌*◌, ◌^◌, ◌≤◌, ◌<◌}
 use native.Mathlib.Numerals.{add-one}
 use native.Mathlib.Nat.{pow-suc, pow-le-pow_right}
 use native.Mathlib.Omega.{arith}
-use borrow.Author.Tests.{leb-true}
+use borrow.Author.Tests.{lt-leb, ne_eqb}
 use lib.Dec.{leb}
 use lib.ListN.{length, get_or, drop, drop_of_length-le}
 use lib.Seq.{drop-cons}
-use Rattle.definition.proofs.Judged.{first, second}
-use Rattle.definition.specs.Lines.{widths, number_from, printable}
+use Rattle.definition.specs.Lines.{number_from, printable, listed, Seen, fault, record_of}
+use Rattle.kinds.specs.Codes.{code_of}
+use Rattle.kinds.specs.declared.Kind.{Kind}
+use Rattle.kinds.specs.declared.Kind.TheVariants as kind
+use Rattle.image_records.specs.Tags.{first_byte}
+use Rattle.image_records.specs.declared.Tag.{Tag}
+use Rattle.image_records.specs.declared.Tag.TheVariants as tag
 
 -- printable
-pub plain_more :
-    (l : List ℕ) (i : ℕ) → i < length l → (leb 32 (get_or l i 0) && leb (get_or l i 0) 126) ≡ true → printable (drop i l) ≡ printable (drop (i + 1) l)
+pub plain_next :
+    (fine : Bool) (l : List ℕ) (i : ℕ) → i < length l
+    → (fine && (leb 32 (get_or l i 0) && leb (get_or l i 0) 126) && printable (drop (i + 1) l)) ≡ (fine && printable (drop i l))
 unfolding printable
-plain_more l i h e =
-    rw (add-one i, drop-cons l i 0 h, first (leb 32 (get_or l i 0)) (leb (get_or l i 0) 126) e, second (leb 32 (get_or l i 0)) (leb (get_or l i 0) 126) e)
-
-pub plain_wrong : (l : List ℕ) (i : ℕ) → i < length l → (leb 32 (get_or l i 0) && leb (get_or l i 0) 126) ≡ false → printable (drop i l) ≡ false
-unfolding printable
-plain_wrong l i h e = rw (drop-cons l i 0 h) (either (leb 32 (get_or l i 0)) (leb (get_or l i 0) 126) (printable (drop (suc i) l)) e)
-  where
-    either : (a b c : Bool) → (a && b) ≡ false → (a && b && c) ≡ false
-    either true true c e = cc
-    either true false c e = refl
-    either false b c e = refl
+plain_next true l i h = rw (add-one i, drop-cons l i 0 h)
+plain_next false l i h = refl
 
 pub plain_end : (l : List ℕ) (i : ℕ) → length l ≤ i → printable (drop i l) ≡ true
 unfolding printable
@@ -55,16 +52,28 @@ number_step v w i g h = rw (add-one i, pow-suc 256 i) (by (256 ^ i) g)
     by : (p : ℕ) → v < p → v * 256 + w < p * 256
     by p g = omega arith
 
--- no payload is wider than 8 bytes
-abbrev all_small : List ℕ → Bool
-all_small [] = true
-all_small (x ∷ xs) = leb x 8 && all_small xs
+-- a number that is no kind's is that of no constant
+up : {m k : ℕ} → m ≤ k → (m ≡ k → ⊥) → m + 1 ≤ k
+up h n = omega arith
 
-small_at : (l : List ℕ) → all_small l ≡ true → (k : ℕ) → get_or l k 0 ≤ 8
-small_at [] e k = omega arith
-small_at (x ∷ xs) e zero = leb-true x 8 (first (leb x 8) (all_small xs) e)
-small_at (x ∷ xs) e (suc k) = small_at xs (second (leb x 8) (all_small xs) e) k
+pub unlisted : (n : ℕ) → ((k : Kind) → code_of k ≡ n → ⊥) → listed n ≡ false
+unfolding listed
+unlisted n miss =
+    let a : 2 ≤ n = up (up (omega arith) (miss kind.Null)) (miss kind.Int) in
+    let b : 5 ≤ n = up (up (up a (miss kind.UInt)) (miss kind.SInt)) (miss kind.SUInt) in
+    let d : 8 ≤ n = up (up (up b (miss kind.Float)) (miss kind.SFloat)) (miss kind.Bool) in
+    let e : 11 ≤ n = up (up (up d (miss kind.Str)) (miss kind.Char)) (miss kind.Byte) in
+    let f : 14 ≤ n = up (up (up e (miss kind.SByte)) (miss kind.BByte)) (miss kind.BSByte) in
+    rw (lt-leb n 13 f, ne_eqb n 20 (λ q. miss kind.Function (sym q)))
 
-pub width_small : (k : ℕ) → get_or widths k 0 ≤ 8
-unfolding widths
-width_small k = small_at widths refl k
+-- a first byte of no record
+pub no_record : (s : Seen) (n : ℕ) (b : List ℕ) → ((t : Tag) → first_byte t ≡ n → ⊥) → record_of s n b ≡ fault 3
+unfolding record_of
+no_record s n b miss =
+    simp (
+      ne_eqb n 1 (λ e. miss tag.Text (sym e)),
+      ne_eqb n 2 (λ e. miss tag.Chunk (sym e)),
+      ne_eqb n 3 (λ e. miss tag.Constant (sym e)),
+      ne_eqb n 4 (λ e. miss tag.Code (sym e)),
+      ne_eqb n 5 (λ e. miss tag.End (sym e)),
+    )

@@ -1,7 +1,9 @@
 -- What a line says, as the definition has it, and the numbers of the refusals.
-use Rattle.std.specs.Prelude.{List, ℕ, Result, Ok, Err}
-use Rattle.definition.specs.Lines.{Seen, text, opens, constant, code, ends, fault, in_texts, in_constants, in_code, after_short}
+use Rattle.std.specs.Prelude.{cond, List, ℕ, Option, Some, None, Result, Ok, Err}
+use Rattle.definition.specs.Lines.{listed, width_of, Seen, text, opens, constant, code, ends, fault, in_texts, in_constants, in_code, after_short}
 use Rattle.definition.specs.Lines.{Part as FormatPart, Record as FormatRecord}
+use Rattle.kinds.specs.Codes.{code_of}
+use Rattle.kinds.specs.declared.Kind.{Kind}
 use Rattle.image_records.specs.declared.Reason.{Reason}
 use Rattle.image_records.specs.declared.Reason.TheVariants.{TooLong, BadLine, OutOfOrder, BadField, TooMany, NoEnd, NoSuchChunk, ShortSlice}
 use Rattle.image_records.specs.declared.Part.{Part}
@@ -35,7 +37,7 @@ seen_of s = record { part = part_of s.part; texts = s.texts; chunks = s.chunks; 
 abbrev pub said : Record → List ℕ → FormatRecord
 said Text b = text b
 said (Opens arity name) b = opens arity name
-said (Constant kind v) b = constant kind v
+said (Constant kind v) b = constant (code_of kind) v
 said Code b = code b
 said Ends b = ends
 
@@ -43,3 +45,7 @@ said Ends b = ends
 abbrev pub says : Result Record Reason → List ℕ → FormatRecord
 says (Ok r) b = said r b
 says (Err f) b = fault (number_of f)
+
+-- how many bytes the payload of a constant of this kind has; none where no constant is of that kind
+abbrev pub width_in : Kind → Option ℕ
+width_in k = cond (listed (code_of k)) (Some (width_of (code_of k))) None

@@ -2,11 +2,14 @@
 // These functions are for `image` alone. What they require, its loop over the lines keeps.
 #![tactic(auto)]
 
-ghost use Rattle.std.specs.Prelude.{◌≡◌, true, ◌&&◌, ◌||◌, List, ℕ, ◌≤◌, length, get_or, drop, ltb, leb, eqb};
-ghost use Rattle.definition.specs.Lines.{judged, constant, number_from, printable, takes_text, text_of, chunk_of, listed, width_of, scalar, allowed, takes_constant, constant_ruled, constant_of, takes_code, code_of, end_of, record_of};
-ghost use Rattle.image_records.specs.Records.{part_of, seen_of, said, says};
+ghost use Rattle.std.specs.Prelude.{◌≡◌, true, ◌&&◌, ◌||◌, List, ℕ, ◌≤◌, length, get_or, drop, ltb, leb, eqb, IfSome};
+ghost use Rattle.definition.specs.Lines.{judged, constant, number_from, printable, takes_text, text_of, chunk_of, scalar, allowed, takes_constant, constant_ruled, constant_of, takes_code, code_of, end_of, record_of};
+ghost use Rattle.kinds.specs.Codes as codes;
+ghost use Rattle.image_records.specs.Records.{number_of, part_of, seen_of, said, says, width_in};
 
-// Why an image is refused; specs/Records.antt, `number_of`, gives document 01's number of each.
+use kinds::Kind;
+
+// Why an image is refused.
 #[derive(Clone, Copy, Debug, PartialEq, Eq)]
 pub enum Reason {
     TooLong,
@@ -17,6 +20,24 @@ pub enum Reason {
     NoEnd,
     NoSuchChunk,
     ShortSlice,
+}
+
+// Document 01's number of a refusal.
+impl From<Reason> for usize {
+    ghost from_gives = { λ reason number. number ≡ number_of reason };
+
+    fn from(reason: Reason) -> usize {
+        match reason {
+            Reason::TooLong => 1,
+            Reason::BadLine => 2,
+            Reason::OutOfOrder => 3,
+            Reason::BadField => 4,
+            Reason::TooMany => 5,
+            Reason::NoEnd => 6,
+            Reason::NoSuchChunk => 7,
+            Reason::ShortSlice => 9,
+        }
+    }
 }
 
 // Where a line stands: among the texts; in a chunk before its code; in its code; after a code line of fewer than 64 bytes.
@@ -48,7 +69,7 @@ pub struct State {
 pub enum Record {
     Text,
     Opens { arity: usize, name: usize },
-    Constant { kind: u8, payload: u64 },
+    Constant { kind: Kind, payload: u64 },
     Code,
     Ends,
 }
@@ -92,12 +113,11 @@ fn is_printable(x: u8) -> bool
 fn plain(b: &[u8]) -> bool
     ensures { result ≡ printable b.now }
 {
+    let mut fine = true;
     for x in b {
-        if !is_printable(*x) {
-            return false;
-        }
+        fine &= is_printable(*x); // with no way out before the end, so that several bytes are judged at once
     }
-    true
+    fine
 }
 
 // A line's faults, the lowest number first: out of order, a rule broken, one too many; else it says r.
@@ -116,6 +136,7 @@ fn judge(in_order: bool, ruled: bool, room: bool, r: Record) -> Result<Record, R
     Ok(r)
 }
 
+#[tactic(auto, unfolding(definition::specs::Lines::text_of))]
 fn text_record(b: &[u8], s: State) -> Result<Record, Reason>
     ensures { says result b.now ≡ text_of (seen_of s) b.now }
 {
@@ -129,6 +150,7 @@ fn chunk_fits(texts: usize, chunks: usize, arity: usize, name: usize) -> bool
     name < texts && (0 < chunks || arity == 0)
 }
 
+#[tactic(auto, unfolding(definition::specs::Lines::chunk_of))]
 fn chunk_record(b: &[u8], s: State) -> Result<Record, Reason>
     ensures { says result b.now ≡ chunk_of (seen_of s) b.now }
 {
@@ -141,28 +163,23 @@ fn chunk_record(b: &[u8], s: State) -> Result<Record, Reason>
     judge(true, ruled, s.chunks < 64, Record::Opens { arity, name })
 }
 
-fn is_listed(kind: u8) -> bool
-    ensures { result ≡ listed kind }
+// How many bytes a constant's payload has, by its kind; none of a kind that no constant has.
+#[tactic(auto, unfolding(definition::specs::Lines::listed, definition::specs::Lines::width_of, definition::specs::Lines::widths))]
+fn width_of(kind: Kind) -> Option<usize>
+    ensures says { result ≡ width_in kind }
+    ensures small { IfSome result (λ n. n ≤ 8) }
 {
-    matches!(kind, 0..=13 | 20)
-}
-
-// The width of a constant's payload by its kind; 14 to 19 are not listed.
-const WIDTHS: [u8; 21] = [
-    0, 8, 8, 4, 4, 8, 4, 1, 2, 4, 1, 1, 2, 2, 0, 0, 0, 0, 0, 0, 2,
-];
-
-fn width_of(kind: u8) -> usize
-    ensures { (result ≡ width_of kind) × (result ≤ 8) }
-{
-    let k = usize::from(kind);
-    if k < WIDTHS.len() {
-        usize::from(WIDTHS[k])
-    } else {
-        0
+    match kind {
+        Kind::Null => Some(0),
+        Kind::Bool | Kind::Byte | Kind::SByte => Some(1),
+        Kind::Str | Kind::BByte | Kind::BSByte | Kind::Function => Some(2),
+        Kind::SInt | Kind::SUInt | Kind::SFloat | Kind::Char => Some(4),
+        Kind::Int | Kind::UInt | Kind::Float => Some(8),
+        Kind::Arr | Kind::Tuple | Kind::Ok | Kind::Error | Kind::Err | Kind::Closure => None,
     }
 }
 
+#[tactic(auto, unfolding(definition::specs::Lines::scalar))]
 fn is_scalar(v: u64) -> bool
     ensures { result ≡ scalar v }
 {
@@ -170,14 +187,15 @@ fn is_scalar(v: u64) -> bool
 }
 
 // Whether a payload keeps its kind's rule.
-fn is_allowed(texts: usize, chunks: usize, kind: u8, v: u64) -> bool
-    ensures { result ≡ allowed texts chunks kind v }
+#[tactic(auto, unfolding(definition::specs::Lines::allowed))]
+fn is_allowed(texts: usize, chunks: usize, kind: Kind, v: u64) -> bool
+    ensures { result ≡ allowed texts chunks (codes.code_of kind) v }
 {
     match kind {
-        7 => v < 2,
-        8 => v < texts as u64,
-        9 => is_scalar(v),
-        20 => chunks as u64 <= v,
+        Kind::Bool => v < 2,
+        Kind::Str => v < texts as u64,
+        Kind::Char => is_scalar(v),
+        Kind::Function => chunks as u64 <= v,
         _ => true,
     }
 }
@@ -189,11 +207,10 @@ fn constant_fields(b: &[u8], s: State) -> Result<Record, Reason>
     if b.is_empty() {
         return Err(Reason::BadField);
     }
-    let kind = b[0];
-    if !is_listed(kind) {
+    let Ok(kind) = Kind::try_from(u64::from(b[0])) else {
         return Err(Reason::BadField);
-    }
-    if b.len() != 1 + width_of(kind) {
+    };
+    if width_of(kind) != Some(b.len() - 1) {
         return Err(Reason::BadField);
     }
     let payload = number(&b[1..]);
@@ -201,6 +218,7 @@ fn constant_fields(b: &[u8], s: State) -> Result<Record, Reason>
     judge(true, ruled, s.own < 256, Record::Constant { kind, payload })
 }
 
+#[tactic(auto, unfolding(definition::specs::Lines::constant_of))]
 fn constant_record(b: &[u8], s: State) -> Result<Record, Reason>
     ensures { says result b.now ≡ constant_of (seen_of s) b.now }
 {
@@ -218,6 +236,7 @@ fn is_code_size(n: usize) -> bool
     matches!(n, 1..=64)
 }
 
+#[tactic(auto, unfolding(definition::specs::Lines::code_of, definition::specs::Lines::code_line))]
 fn code_record(b: &[u8], s: State) -> Result<Record, Reason>
     requires { s.code ≤ 4096 }
     ensures { says result b.now ≡ code_of (seen_of s) b.now }
@@ -231,6 +250,7 @@ fn code_record(b: &[u8], s: State) -> Result<Record, Reason>
     )
 }
 
+#[tactic(auto, unfolding(definition::specs::Lines::end_of))]
 fn end_record(b: &[u8], s: State) -> Result<Record, Reason>
     ensures { says result b.now ≡ end_of (seen_of s) b.now }
 {
@@ -238,17 +258,46 @@ fn end_record(b: &[u8], s: State) -> Result<Record, Reason>
     judge(in_order, b.is_empty(), true, Record::Ends)
 }
 
+// What a line is, by its first byte.
+#[derive(Clone, Copy)]
+enum Tag {
+    Text,
+    Chunk,
+    Constant,
+    Code,
+    End,
+}
+
+impl TryFrom<u8> for Tag {
+    type Error = Reason;
+
+    ghost use Rattle.image_records.specs.Tags.{TagOf};
+
+    ghost try_from_gives = { TagOf };
+
+    fn try_from(first: u8) -> Result<Self, Reason> {
+        match first {
+            1 => Ok(Tag::Text),
+            2 => Ok(Tag::Chunk),
+            3 => Ok(Tag::Constant),
+            4 => Ok(Tag::Code),
+            5 => Ok(Tag::End),
+            _ => Err(Reason::OutOfOrder),
+        }
+    }
+}
+
 // What a line with first byte `tag` and fields `b` says after what was read before it, or its fault.
+#[tactic(auto, unfolding(definition::specs::Lines::record_of))]
 pub fn record_of(tag: u8, b: &[u8], s: State) -> Result<Record, Reason>
     requires { s.code ≤ 4096 }
     ensures { says result b.now ≡ record_of (seen_of s) tag b.now }
 {
-    match tag {
-        1 => text_record(b, s),
-        2 => chunk_record(b, s),
-        3 => constant_record(b, s),
-        4 => code_record(b, s),
-        5 => end_record(b, s),
-        _ => Err(Reason::OutOfOrder),
+    match Tag::try_from(tag)? {
+        Tag::Text => text_record(b, s),
+        Tag::Chunk => chunk_record(b, s),
+        Tag::Constant => constant_record(b, s),
+        Tag::Code => code_record(b, s),
+        Tag::End => end_record(b, s),
     }
 }

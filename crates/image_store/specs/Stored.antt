@@ -145,11 +145,7 @@ Fine s n (Constant kind v) = (s.own < 256) × (0 < n)
 Fine s n Code = s.code + n ≤ 4096
 Fine s n Ends = Unit
 
-pub record CanAccept (s : State) (r : Record) (n : ℕ) (ends kinds payloads table : List ℕ) : Type 0 where
-  pub room_ends : 256 ≤ length ends
-  pub room_kinds : 13107 ≤ length kinds
-  pub room_payloads : 13107 ≤ length payloads
-  pub room_table : 260 ≤ length table
+pub record CanAccept (s : State) (r : Record) (n : ℕ) : Type 0 where
   pub few_bytes : s.bytes + n ≤ 32768
   pub few_constants : s.constants < 13107
   pub few_texts : s.texts ≤ 256

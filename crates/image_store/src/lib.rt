@@ -3,9 +3,11 @@
 #![tactic(auto)]
 
 ghost use Rattle.std.specs.Prelude.{◌≡◌, [], ◌∷◌, ◌++◌, ◌+◌, ◌≤◌, length, take, drop};
+ghost use Rattle.kinds.specs.Codes.{code_of};
 ghost use Rattle.image_store.specs.Stored.{refusal_of, named_by, part_after, after_text, after_chunk, after_constant, after_code, after_end, CanAccept, Accepted, finish_of};
 
 use image_records::{Part, Reason, Record, State};
+use kinds::Kind;
 
 // What a line leads to that is not at fault: the next line, or a loaded image.
 #[derive(Clone, Copy, Debug, PartialEq, Eq)]
@@ -39,10 +41,14 @@ fn put_row(table: &mut [usize], at: usize, row: [usize; 4])
 }
 
 // The highest chunk number that a Function names, with one constant more.
-fn higher(named: u64, kind: u8, v: u64) -> u64
-    ensures { result ≡ named_by named kind v }
+fn higher(named: u64, kind: Kind, v: u64) -> u64
+    ensures { result ≡ named_by named (code_of kind) v }
 {
-    if kind == 20 && named < v { v } else { named }
+    if kind == Kind::Function && named < v {
+        v
+    } else {
+        named
+    }
 }
 
 // After a code line of fewer than 64 bytes no other may come.
@@ -82,9 +88,9 @@ fn after_chunk(s: State) -> State
     }
 }
 
-fn after_constant(s: State, kind: u8, v: u64) -> State
+fn after_constant(s: State, kind: Kind, v: u64) -> State
     requires { (s.own ≤ 256) × (s.constants ≤ 13107) }
-    ensures { result ≡ after_constant s kind v }
+    ensures { result ≡ after_constant s (code_of kind) v }
 {
     State {
         part: Part::InConstants,
@@ -118,37 +124,48 @@ fn after_end(s: State) -> State
     }
 }
 
-// Notes what a line with n bytes of fields says; the fields of a text and of code are in their place already.
-pub fn accept(
-    s: State,
-    r: Record,
-    n: usize,
-    ends: &mut [usize],
-    kinds: &mut [u8],
-    payloads: &mut [u64],
-    table: &mut [usize],
-) -> State
-    requires { CanAccept s r n ends.old kinds.old payloads.old table.old }
-    ensures { Accepted s r n ends.old kinds.old payloads.old table.old result ends.new kinds.new payloads.new table.new }
-{
-    match r {
-        Record::Text => {
-            ends[s.texts] = s.bytes + n;
-            after_text(s, n)
-        }
-        Record::Opens { arity, name } => {
-            put_row(table, 4 * s.rows, [arity, name, s.constants, s.bytes]);
-            after_chunk(s)
-        }
-        Record::Constant { kind, payload } => {
-            kinds[s.constants] = kind;
-            payloads[s.constants] = payload;
-            after_constant(s, kind, payload)
-        }
-        Record::Code => after_code(s, n),
-        Record::Ends => {
-            put_row(table, 4 * s.rows, [0, 0, s.constants, s.bytes]);
-            after_end(s)
+// The tables that records go to: where each text ends, the kind and the payload of each constant, and a row of four numbers for each chunk. There is
+// room in them for any image. Slices side by side, as the C interface lends them.
+#[derive(Drop)]
+pub struct Tables<'a> {
+    pub ends: &'a mut [usize],
+    pub kinds: &'a mut [u8],
+    pub payloads: &'a mut [u64],
+    pub table: &'a mut [usize],
+    ghost room_ends: { 256 ≤ length ends.now },
+    ghost room_kinds: { 13107 ≤ length kinds.now },
+    ghost room_payloads: { 13107 ≤ length payloads.now },
+    ghost room_table: { 260 ≤ length table.now },
+}
+
+impl<'a> Tables<'a> {
+    ghost use Rattle.image_store.specs.Tables.{SameTables};
+
+    // Notes what a line with n bytes of fields says; the fields of a text and of code are in their place already.
+    pub fn accept(&mut self, s: State, r: Record, n: usize) -> State
+        requires { CanAccept s r n }
+        ensures accepted { Accepted s r n self.old.ends.now self.old.kinds.now self.old.payloads.now self.old.table.now result self.new.ends.now self.new.kinds.now self.new.payloads.now self.new.table.now }
+        ensures same { SameTables self.old self.new }
+    {
+        match r {
+            Record::Text => {
+                self.ends[s.texts] = s.bytes + n;
+                after_text(s, n)
+            }
+            Record::Opens { arity, name } => {
+                put_row(self.table, 4 * s.rows, [arity, name, s.constants, s.bytes]);
+                after_chunk(s)
+            }
+            Record::Constant { kind, payload } => {
+                self.kinds[s.constants] = u8::from(kind);
+                self.payloads[s.constants] = payload;
+                after_constant(s, kind, payload)
+            }
+            Record::Code => after_code(s, n),
+            Record::Ends => {
+                put_row(self.table, 4 * s.rows, [0, 0, s.constants, s.bytes]);
+                after_end(s)
+            }
         }
     }
 }

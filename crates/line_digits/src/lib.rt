@@ -15,6 +15,7 @@ pub struct Line {
 
 // The value of an upper-case hexadecimal digit; 16 of anything else. In this form it is found without a branch, and `hex` by a `match` on the two
 // ranges is not: on code of random bytes that one takes twice as long (tried).
+#[tactic(auto, unfolding(definition::specs::Lines::digit))]
 fn value_of(x: u8) -> u8
     ensures { (result ≡ digit x) × (result ≤ 16) }
 {

@@ -2,6 +2,8 @@
 // refusal; and how a line is written. A piece is pushed behind those before it. Numbers and bytes look as in the crate `definition`, specs/Runner.antt.
 #![tactic(auto)]
 
+mod runs; // the line of an answer of `run`
+
 ghost use Rattle.std.specs.Prelude.{◌≡◌, [], ◌∷◌, ◌++◌, ◌+◌, ◌-◌, ◌*◌, ◌/◌, ◌%◌, ◌≤◌, ◌<◌, length, replicate};
 ghost use Rattle.std.specs.Bool.{OnTrue};
 ghost use Rattle.std.specs.Io.KnownBytes.{Appends};
@@ -10,9 +12,10 @@ ghost use Rattle.definition.specs.Runner.{ascii, decimal, padded, hex_digit, hex
 
 use arrayvec::ArrayString;
 use itoa::Buffer;
+pub use runs::push_run;
 use std::io::Write;
 
-// The decimal digits of n. There are at most 20.
+// The decimal digits of n, by the kit's `itoa`: a `write!` to the line would have an error that cannot come. There are at most 20.
 pub fn push_decimal<const N: usize>(line: &mut ArrayString<N>, n: usize)
     requires { array_string_len line.old + 20 ≤ N }
     ensures text { line.new.bytes ≡ line.old.bytes ++ decimal n }
@@ -22,7 +25,7 @@ pub fn push_decimal<const N: usize>(line: &mut ArrayString<N>, n: usize)
     line.push_str(buffer.format(n));
 }
 
-// The zeros in front of these digits, up to four.
+// The zeros in front of these digits, up to four. A table, since a part of `0000` would have to be shown to end between two characters.
 fn missing_zeros(digits: &str) -> &str
     ensures { result.now ≡ replicate (4 - length digits.now) 48 }
 {
@@ -58,6 +61,7 @@ pub fn push_place<const N: usize>(line: &mut ArrayString<N>, chunk: usize, offse
     push_padded(line, offset);
 }
 
+// An upper-case digit: `char::from_digit` gives lower-case ones, and an Option of them.
 fn hex_digit(n: u8) -> char
     requires { n < 16 }
     ensures digit { result ≡ hex_digit n }

@@ -1,31 +1,33 @@
 // Which lines of the list belong to an image. What these functions require, their callers in this program keep; no other crate can reach them.
-ghost use Rattle.std.specs.Prelude.{◌≡◌, ◌≤◌};
-ghost use Rattle.load_replay.specs.Marks.{mark_of, end_of};
+ghost use Rattle.std.specs.Prelude.{◌≡◌, Some, ◌≤◌};
+ghost use Rattle.load_replay.specs.Marks.{number_of, mark_of, end_of};
 
-// Where an image ends whose answer's line, with this mark, begins at `at`.
-pub fn image_end(mark: usize, from: usize, at: usize) -> usize
-    requires { from ≤ at }
-    ensures within { (from ≤ result) × (result ≤ at) }
-    ensures value { result ≡ end_of mark from at }
-{
-    if mark != 2 {
-        return at;
-    }
-    if from < at {
-        return at - 1;
-    }
-    at
+// The mark of an answer's line: one to an image that ends in a line feed, or one to an image that does not.
+#[derive(Clone, Copy, Debug, PartialEq, Eq)]
+pub enum Mark {
+    Equals,
+    Tilde,
 }
 
-// 1 for the line of an answer to an image that ends in a line feed, 2 for one that does not, 0 for a line of the image.
-pub fn answer_mark(first: u8) -> usize
-    ensures { result ≡ mark_of first }
+// Where an image ends whose answer's line, with this mark, begins at `at`.
+pub fn image_end(mark: Mark, from: usize, at: usize) -> usize
+    requires { from ≤ at }
+    ensures within { (from ≤ result) × (result ≤ at) }
+    ensures value { result ≡ end_of (number_of (Some mark)) from at }
 {
-    if first == b'=' {
-        return 1;
+    match mark {
+        Mark::Tilde if from < at => at - 1,
+        _ => at,
     }
-    if first == b'~' {
-        return 2;
+}
+
+// The mark of a line by its first byte; none of a line of the image.
+pub fn answer_mark(first: u8) -> Option<Mark>
+    ensures { number_of result ≡ mark_of first }
+{
+    match first {
+        b'=' => Some(Mark::Equals),
+        b'~' => Some(Mark::Tilde),
+        _ => None,
     }
-    0
 }

@@ -1,6 +1,7 @@
 // Add, Sub, Mul and Div. Two Ints are added and subtracted in the type itself: they are what a sheet computes with most.
-ghost use Rattle.std.specs.Prelude.{◌≡◌, ◌+ℤ◌, ◌-ℤ◌, ◌*ℤ◌, ℤ, Result};
+ghost use Rattle.std.specs.Prelude.{◌≡◌, ◌+ℤ◌, ◌-ℤ◌, ◌*ℤ◌, ℤ, Result, MatchResult, Err};
 ghost use Rattle.std.specs.Float.Ieee as Ieee;
+ghost use Rattle.std.specs.Float.Ieee.{unlike};
 ghost use Rattle.std.specs.Float.{Format, binary32, binary64};
 ghost use Rattle.numbers.specs.declared.IntKind.{IntKind};
 ghost use Rattle.numbers.specs.declared.IntKind.TheVariants.{I64};
@@ -12,24 +13,6 @@ ghost use Rattle.numbers.specs.Arithmetic.{checked as checked_of, checked_div, a
 
 use number_operands::{OperandPair, SignMagnitude, checked, pair_of};
 use numbers::{IntKind, Number, NumberFault};
-
-fn add_int(x: i64, y: i64) -> Result<Number, NumberFault>
-    ensures { result ≡ checked_of I64 (x +ℤ y) }
-{
-    match x.checked_add(y) {
-        Some(sum) => Ok(Number::Int(sum)),
-        None => Err(NumberFault::Overflow),
-    }
-}
-
-fn sub_int(x: i64, y: i64) -> Result<Number, NumberFault>
-    ensures { result ≡ checked_of I64 (x -ℤ y) }
-{
-    match x.checked_sub(y) {
-        Some(rest) => Ok(Number::Int(rest)),
-        None => Err(NumberFault::Overflow),
-    }
-}
 
 fn add_integers(kind: IntKind, a: SignMagnitude, b: SignMagnitude) -> Result<Number, NumberFault>
     ensures { result ≡ checked_of kind (value_of a +ℤ value_of b) }
@@ -56,40 +39,25 @@ fn sub_integers(kind: IntKind, a: SignMagnitude, b: SignMagnitude) -> Result<Num
     add_integers(kind, a, SignMagnitude { negative, ..b })
 }
 
-// A product of magnitudes below 2^64 needs up to 128 bits: it is past every kind where it does not fit 64.
-fn mul_integers(kind: IntKind, a: SignMagnitude, b: SignMagnitude) -> Result<Number, NumberFault>
-    ensures { result ≡ checked_of kind (value_of a *ℤ value_of b) }
+// The number of the kind with the sign of a product or a quotient of a and b, and this magnitude.
+fn of_magnitudes(
+    kind: IntKind,
+    a: SignMagnitude,
+    b: SignMagnitude,
+    magnitude: Result<u64, NumberFault>,
+) -> Result<Number, NumberFault>
+    ensures { MatchResult magnitude (λ m. result ≡ checked_of kind (value_of (record { negative = unlike a.negative b.negative; magnitude = m }))) (λ fault. result ≡ Err fault) }
 {
-    let negative = a.negative != b.negative;
-    match a.magnitude.checked_mul(b.magnitude) {
-        Some(magnitude) => checked(
-            kind,
-            SignMagnitude {
-                negative,
-                magnitude,
-            },
-        ),
-        None => Err(NumberFault::Overflow),
-    }
+    checked(
+        kind,
+        SignMagnitude {
+            negative: a.negative != b.negative,
+            magnitude: magnitude?,
+        },
+    )
 }
 
-fn div_integers(kind: IntKind, a: SignMagnitude, b: SignMagnitude) -> Result<Number, NumberFault>
-    ensures { result ≡ checked_div kind (value_of a) (value_of b) }
-{
-    let negative = a.negative != b.negative;
-    match a.magnitude.checked_div(b.magnitude) {
-        Some(magnitude) => checked(
-            kind,
-            SignMagnitude {
-                negative,
-                magnitude,
-            },
-        ),
-        None => Err(NumberFault::ZeroDivisor),
-    }
-}
-
-// What an operation does to two integers of one kind, and to two floats of one format.
+// What an operation does to two integers of one kind, and to two floats of one format. What is alike in its instances is in the functions above.
 trait Operation {
     ghost on_integers: { IntKind → ℤ → ℤ → Result Number NumberFault };
 
@@ -121,6 +89,28 @@ struct Multiplication;
 
 #[derive(Clone, Copy)]
 struct Division;
+
+// What it does to two Ints, in the type itself.
+trait OnInts: Operation {
+    fn ints(&self, x: i64, y: i64) -> Result<Number, NumberFault>
+        ensures { result ≡ Self.on_integers I64 x y };
+}
+
+impl OnInts for Addition {
+    fn ints(&self, x: i64, y: i64) -> Result<Number, NumberFault> {
+        x.checked_add(y)
+            .map(Number::Int)
+            .ok_or(NumberFault::Overflow)
+    }
+}
+
+impl OnInts for Subtraction {
+    fn ints(&self, x: i64, y: i64) -> Result<Number, NumberFault> {
+        x.checked_sub(y)
+            .map(Number::Int)
+            .ok_or(NumberFault::Overflow)
+    }
+}
 
 impl Operation for Addition {
     ghost on_integers = { λ kind a b. checked_of kind (a +ℤ b) };
@@ -179,7 +169,9 @@ impl Operation for Multiplication {
         a: SignMagnitude,
         b: SignMagnitude,
     ) -> Result<Number, NumberFault> {
-        mul_integers(kind, a, b)
+        // It needs up to 128 bits, and is past every kind where it does not fit 64.
+        let product = a.magnitude.checked_mul(b.magnitude);
+        of_magnitudes(kind, a, b, product.ok_or(NumberFault::Overflow))
     }
 
     fn doubles(&self, x: f64, y: f64) -> f64 {
@@ -202,7 +194,8 @@ impl Operation for Division {
         a: SignMagnitude,
         b: SignMagnitude,
     ) -> Result<Number, NumberFault> {
-        div_integers(kind, a, b)
+        let quotient = a.magnitude.checked_div(b.magnitude);
+        of_magnitudes(kind, a, b, quotient.ok_or(NumberFault::ZeroDivisor))
     }
 
     fn doubles(&self, x: f64, y: f64) -> f64 {
@@ -226,50 +219,40 @@ fn operate<O: Operation>(operation: &O, a: Number, b: Number) -> Result<Number, 
     }
 }
 
-// An enum is handed to a function by its address. `add` and `sub` hand copies to the shared way and take its answer into a local, so that the
-// operands and the answer of two Ints, which their caller has in registers, need no memory.
-pub fn add(a: Number, b: Number) -> Result<Number, NumberFault>
-    ensures { result ≡ add_of a b }
+// An enum is handed to a function by its address. Copies go to the shared way, and its answer into a local, so that the operands and the answer of
+// two Ints, which the caller has in registers, need no memory.
+fn quickly<O: OnInts>(operation: &O, a: Number, b: Number) -> Result<Number, NumberFault>
+    ensures { result ≡ arithmetic O.on_integers O.on_floats (same_kind (scalar_of a) (scalar_of b)) }
 {
     match a {
         Number::Int(x) => match b {
-            Number::Int(y) => add_int(x, y),
+            Number::Int(y) => operation.ints(x, y),
             _ => {
                 let p = a;
                 let q = b;
-                let r = operate(&Addition, p, q);
+                let r = operate(operation, p, q);
                 r
             }
         },
         _ => {
             let p = a;
             let q = b;
-            let r = operate(&Addition, p, q);
+            let r = operate(operation, p, q);
             r
         }
     }
 }
 
+pub fn add(a: Number, b: Number) -> Result<Number, NumberFault>
+    ensures { result ≡ add_of a b }
+{
+    quickly(&Addition, a, b)
+}
+
 pub fn sub(a: Number, b: Number) -> Result<Number, NumberFault>
     ensures { result ≡ sub_of a b }
 {
-    match a {
-        Number::Int(x) => match b {
-            Number::Int(y) => sub_int(x, y),
-            _ => {
-                let p = a;
-                let q = b;
-                let r = operate(&Subtraction, p, q);
-                r
-            }
-        },
-        _ => {
-            let p = a;
-            let q = b;
-            let r = operate(&Subtraction, p, q);
-            r
-        }
-    }
+    quickly(&Subtraction, a, b)
 }
 
 pub fn mul(a: Number, b: Number) -> Result<Number, NumberFault>

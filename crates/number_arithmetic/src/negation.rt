@@ -2,16 +2,18 @@
 ghost use Rattle.std.specs.Prelude.{◌≡◌};
 ghost use Rattle.numbers.specs.Arithmetic.{negate_of};
 
+use numbers::NumberFault::Overflow;
 use numbers::{Number, NumberFault};
 
+#[tactic(auto, unfolding(numbers::specs::Arithmetic::negate_of))]
 pub fn negate(a: Number) -> Result<Number, NumberFault>
     ensures { result ≡ negate_of a }
 {
     match a {
-        Number::Int(x) => Ok(Number::Int(x.checked_neg().ok_or(NumberFault::Overflow)?)),
-        Number::SInt(x) => Ok(Number::SInt(x.checked_neg().ok_or(NumberFault::Overflow)?)),
-        Number::BSByte(x) => Ok(Number::BSByte(x.checked_neg().ok_or(NumberFault::Overflow)?)),
-        Number::SByte(x) => Ok(Number::SByte(x.checked_neg().ok_or(NumberFault::Overflow)?)),
+        Number::Int(x) => x.checked_neg().map(Number::Int).ok_or(Overflow),
+        Number::SInt(x) => x.checked_neg().map(Number::SInt).ok_or(Overflow),
+        Number::BSByte(x) => x.checked_neg().map(Number::BSByte).ok_or(Overflow),
+        Number::SByte(x) => x.checked_neg().map(Number::SByte).ok_or(Overflow),
         Number::Float(x) => Ok(Number::Float(-x)),
         Number::SFloat(x) => Ok(Number::SFloat(-x)),
         Number::UInt(_) => Err(NumberFault::WrongKind),

@@ -63,7 +63,8 @@ fn repeated<F: Fn(Number, Number) -> Result<Number, NumberFault>>(
     n
 }
 
-// It alone calls `add`, as a machine has one place that adds.
+// The three exports of `repeated` stay three: C knows no closure, and bench/ links each by its name.
+// It alone calls `add`, as a machine has one place that adds. Each of the three is `repeated` under the name by which C calls it.
 #[unsafe(no_mangle)]
 pub extern "C" fn bench_add(n: u64, kind: u8, first: u64, second: u64, last: &mut u64) -> u64
     ensures { Gives (λ x. add_of x (number_at kind second)) n (number_at kind first) result last.old last.new }

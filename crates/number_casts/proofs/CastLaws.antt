@@ -1,24 +1,22 @@
 -- Casts: the low 64 bits, the range, the whole part of a float held to 128 bits, and an integer as an f64. Assumes nothing.
-use Rattle.std.proofs.Common.{◌≡◌, ℕ, zero, suc, ◌+◌, ◌-◌, ◌*◌, ◌/◌, ◌%◌, ◌^◌, ◌<◌, ◌≤◌, min, Bool, true, false, cond, not, T, eqb, ltb, leb, ℤ, pos, neg_ℤ, sym, refl, ap, ◌∙◌, subst, le_trans, lt_of_lt_of_le, le_of_lt, arith, lit≤, ltb→lt, nltb→le, eq-eqb, ne_eqb, Ok, Err}
+use Rattle.std.proofs.Common.{Option, Some, None, ◌≡◌, ℕ, zero, suc, ◌+◌, ◌-◌, ◌*◌, ◌/◌, ◌%◌, ◌^◌, ◌<◌, ◌≤◌, min, Bool, true, false, cond, not, T, eqb, ltb, leb, ℤ, pos, neg_ℤ, sym, refl, ap, ◌∙◌, subst, le_trans, lt_of_lt_of_le, le_of_lt, arith, lit≤, ltb→lt, nltb→le, eq-eqb, ne_eqb, Ok, Err}
 use lib.Count.{count_trailing_zeros}
 use lib.Ieee.{Format, prec, emax, low, size, units, round, neg, of_int, Float, nan, inf, fin, binary64, up, down, minus, odd, fits, of_fields, of_bits, to_bits, to_unsigned, to_signed}
 use lib.Ieee.Bits.{of_bits-to_bits}
 use lib.Ieee.Fits.{round_is}
 use lib.Ieee.Nearest.{closest}
 use borrow.Author.Tests.{lt-leb}
-use Rattle.numbers.specs.declared.CastTarget.{CastTarget}
-use Rattle.numbers.specs.declared.Number.{Number}
 use Rattle.numbers.specs.declared.Number.TheVariants.{Int}
 use Rattle.numbers.specs.declared.NumberFault.TheVariants.{InvalidCast}
 use Rattle.numbers.specs.declared.IntKind.{IntKind}
 use Rattle.numbers.specs.declared.IntKind.TheVariants.{I64, U64}
 use Rattle.number_casts.specs.declared.WholePart.{WholePart}
-use Rattle.number_casts.specs.declared.WholePart.TheVariants.{Below64, Below127, Beyond}
+use Rattle.number_casts.specs.declared.WholePart.TheVariants.{Below64, Below127}
 use Rattle.numbers.specs.Kinds.{int_kind_code, in_range, as_kind, low_bits, wrapping}
-use Rattle.numbers.specs.Scalars.{Scalar, scalar_of}
 use Rattle.numbers.specs.Answers.{pick}
-use Rattle.numbers.specs.Casts.{cast_to, cast_of, truncated, as_float, cast_integer}
-use Rattle.number_casts.specs.Whole.{whole_part_of, pick_whole}
+use Rattle.numbers.specs.Casts.{cast_integer}
+use Rattle.number_casts.proofs.Whole.{below64, below127}
+use Rattle.number_casts.specs.Whole.{whole_part_of}
 use Rattle.numbers.proofs.Signs.{signed}
 use Rattle.numbers.proofs.Ranges.{outside}
 use Rattle.numbers.proofs.Wrap.{wrapping_word, wrapping_in, low_of_64, neg_word}
@@ -44,23 +42,23 @@ module _ (k : IntKind) (z : ℤ) (w : ℕ) (word : w ≡ low_bits 64 z) {m : ℕ
   cast_invalid h r = cast_other false h r
 
 -- ---- which whole part it was
-abbrev pub View : WholePart → ℕ → Type 0
-View (Below64 q) n = (q ≡ n) × (n < 2 ^ 64)
-View (Below127 r) n = (r ≡ n % 2 ^ 64) × (2 ^ 64 ≤ n) × (n < 2 ^ 127)
-View Beyond n = 2 ^ 127 ≤ n
+abbrev pub View : Option WholePart → ℕ → Type 0
+View (Some (Below64 q)) n = (q ≡ n) × (n < 2 ^ 64)
+View (Some (Below127 r)) n = (r ≡ n % 2 ^ 64) × (2 ^ 64 ≤ n) × (n < 2 ^ 127)
+View None n = 2 ^ 127 ≤ n
 
 view_of : (n : ℕ) → View (whole_part_of n) n
 unfolding whole_part_of
 view_of n = go (ltb n (2 ^ 64)) (ltb n (2 ^ 127)) (ltb→lt n (2 ^ 64)) (nltb→le n (2 ^ 64)) (ltb→lt n (2 ^ 127)) (nltb→le n (2 ^ 127))
   where
-    go : (a b : Bool) → (T a → n < 2 ^ 64) → (T (not a) → 2 ^ 64 ≤ n) → (T b → n < 2 ^ 127) → (T (not b) → 2 ^ 127 ≤ n) → View (pick_whole a (Below64
-        n) (pick_whole b (Below127 (n % 2 ^ 64)) Beyond)) n
+    go : (a b : Bool) → (T a → n < 2 ^ 64) → (T (not a) → 2 ^ 64 ≤ n) → (T b → n < 2 ^ 127) → (T (not b) → 2 ^ 127 ≤ n) → View (cond a (below64
+        n) (cond b (below127 (n % 2 ^ 64)) None)) n
     go true b x y z w = (refl, x tt)
     go false true x y z w = (refl, y tt, z tt)
     go false false x y z w = w tt
 
-pub view : (n : ℕ) {r c : WholePart} → r ≡ whole_part_of n → r ≡ c → View c n
-view n e k = subst (λ (c : WholePart). View c n) (sym e ∙ k) (view_of n)
+pub view : (n : ℕ) {r c : Option WholePart} → r ≡ whole_part_of n → r ≡ c → View c n
+view n e k = subst (λ (c : Option WholePart). View c n) (sym e ∙ k) (view_of n)
 
 -- ---- the whole part of a float, held to -2^127 .. 2^127 - 1, from its magnitude's
 abbrev pub hold : Bool → ℕ → ℤ
@@ -144,30 +142,30 @@ pub signed_word : (s : Bool) (n r : ℕ) → r ≡ n % 2 ^ 64 → low_bits 64 (s
 signed_word false n r e = ap (λ (k : ℕ). k % 2 ^ 64) e ∙ low_of_64 U64 (pos n)
 signed_word true n r e = neg_word n r e
 
--- ---- what `cast_truncated` knows of a float x with the bits b, by its whole part
+-- ---- what `make_whole` knows of a float x with the bits b, by its whole part
 module _ (x : Float) (b : ℕ) (f : T (fits binary64 x)) (h : b < 2 ^ 64) (e : b ≡ to_bits binary64 x) where
-  pub small_is : (q : ℕ) → View (Below64 q) (to_unsigned 128 (of_bits binary64 (b % 2 ^ 63))) → signed (leb (2 ^ 63) b) q ≡ to_signed 127 x
+  pub small_is : (q : ℕ) → View (below64 q) (to_unsigned 128 (of_bits binary64 (b % 2 ^ 63))) → signed (leb (2 ^ 63) b) q ≡ to_signed 127 x
   small_is q k =
       let n = to_unsigned 128 (of_bits binary64 (b % 2 ^ 63)) in
       ap (signed (leb (2 ^ 63) b)) k.0 ∙ sym (held x b f h e ∙ hold_in (leb (2 ^ 63) b) n (lt_of_lt_of_le k.1 (lit≤ tt)))
 
-  large_is : (r : ℕ) → View (Below127 r) (to_unsigned 128 (of_bits binary64 (b % 2 ^ 63))) → to_signed 127 x ≡ signed (leb (2 ^ 63) b) (to_unsigned 128 (of_bits binary64 (b % 2 ^ 63)))
+  large_is : (r : ℕ) → View (below127 r) (to_unsigned 128 (of_bits binary64 (b % 2 ^ 63))) → to_signed 127 x ≡ signed (leb (2 ^ 63) b) (to_unsigned 128 (of_bits binary64 (b % 2 ^ 63)))
   large_is r k = held x b f h e ∙ hold_in (leb (2 ^ 63) b) (to_unsigned 128 (of_bits binary64 (b % 2 ^ 63))) k.2
 
-  pub large_word : (r : ℕ) → View (Below127 r) (to_unsigned 128 (of_bits binary64 (b % 2 ^ 63))) → low_bits 64 (signed (leb (2 ^ 63) b) r) ≡ low_bits 64 (to_signed 127 x)
+  pub large_word : (r : ℕ) → View (below127 r) (to_unsigned 128 (of_bits binary64 (b % 2 ^ 63))) → low_bits 64 (signed (leb (2 ^ 63) b) r) ≡ low_bits 64 (to_signed 127 x)
   large_word r k = signed_word (leb (2 ^ 63) b) (to_unsigned 128 (of_bits binary64 (b % 2 ^ 63))) r k.0 ∙ sym (ap (low_bits 64) (large_is r k))
 
-  pub large_outside : (j : IntKind) (r : ℕ) → View (Below127 r) (to_unsigned 128 (of_bits binary64 (b % 2 ^ 63))) → false ≡ in_range j (to_signed 127 x)
-  large_outside j r k = sym (ap (in_range j) (large_is r k) ∙ outside j (leb (2 ^ 63) b) (to_unsigned 128 (of_bits binary64 (b % 2 ^ 63))) k.1)
+  pub large_outside : (j : IntKind) (r : ℕ) → View (below127 r) (to_unsigned 128 (of_bits binary64 (b % 2 ^ 63))) → in_range j (to_signed 127 x) ≡ false
+  large_outside j r k = ap (in_range j) (large_is r k) ∙ outside j (leb (2 ^ 63) b) (to_unsigned 128 (of_bits binary64 (b % 2 ^ 63))) k.1
 
-  beyond_is : View Beyond (to_unsigned 128 (of_bits binary64 (b % 2 ^ 63))) → (s : Bool) → leb (2 ^ 63) b ≡ s → to_signed 127 x ≡ end s
+  beyond_is : View None (to_unsigned 128 (of_bits binary64 (b % 2 ^ 63))) → (s : Bool) → leb (2 ^ 63) b ≡ s → to_signed 127 x ≡ end s
   beyond_is k s t = held x b f h e ∙ hold_over (leb (2 ^ 63) b) (to_unsigned 128 (of_bits binary64 (b % 2 ^ 63))) k ∙ ap end t
 
-  pub beyond_word : View Beyond (to_unsigned 128 (of_bits binary64 (b % 2 ^ 63))) → (s : Bool) → leb (2 ^ 63) b ≡ s → cond s 0 0xffff_ffff_ffff_ffff ≡ low_bits 64 (to_signed 127 x)
+  pub beyond_word : View None (to_unsigned 128 (of_bits binary64 (b % 2 ^ 63))) → (s : Bool) → leb (2 ^ 63) b ≡ s → cond s 0 0xffff_ffff_ffff_ffff ≡ low_bits 64 (to_signed 127 x)
   beyond_word k s t = end_word s ∙ sym (ap (low_bits 64) (beyond_is k s t))
 
-  pub beyond_outside : (j : IntKind) → View Beyond (to_unsigned 128 (of_bits binary64 (b % 2 ^ 63))) → (s : Bool) → leb (2 ^ 63) b ≡ s → false ≡ in_range j (to_signed 127 x)
-  beyond_outside j k s t = sym (ap (in_range j) (beyond_is k s t) ∙ end_outside j s)
+  pub beyond_outside : (j : IntKind) → View None (to_unsigned 128 (of_bits binary64 (b % 2 ^ 63))) → (s : Bool) → leb (2 ^ 63) b ≡ s → in_range j (to_signed 127 x) ≡ false
+  beyond_outside j k s t = ap (in_range j) (beyond_is k s t) ∙ end_outside j s
 
 -- ---- an integer as an f64
 neg_odd : (d q k l : ℕ) → neg (odd d false q k l) ≡ odd d true q k l
@@ -192,12 +190,3 @@ pub float_neg : (n : ℕ) → (n ≡ 0 → ⊥) → neg (of_int binary64 (pos n)
 unfolding of_int
 float_neg zero z = absurd (z refl)
 float_neg (suc n) z = neg_round binary64 (suc n) 1
-
-pub float_zero : (n : ℕ) → n ≡ 0 → of_bits binary64 0 ≡ of_int binary64 (neg_ℤ (pos n))
-unfolding of_int of_bits round
-float_zero n e = sym (ap (λ (k : ℕ). of_int binary64 (neg_ℤ (pos k))) e)
-
--- ---- the cast of a number, from what it stands for
-pub cast_scalar : (t : CastTarget) (a : Number) (s : Scalar) → s ≡ scalar_of a → cast_to t (truncated s) (as_float s) ≡ cast_of t a
-unfolding cast_of
-cast_scalar t a s e = ap (λ (y : Scalar). cast_to t (truncated y) (as_float y)) e

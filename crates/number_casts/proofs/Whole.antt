@@ -1,5 +1,5 @@
 -- The whole part of an f64 by its bits, and what is kept of it in 64 bits.
-use Rattle.std.proofs.Common.{◌≡◌, ℕ, zero, suc, ◌+◌, ◌-◌, ◌*◌, ◌/◌, ◌%◌, ◌^◌, ◌<◌, ◌≤◌, min, Bool, true, false, cond, not, T, eqb, ltb, sym, refl, ap, ◌∙◌, subst, le_trans, le_of_eq, lt_of_lt_of_le, le-add_right, lt_of_le_of_lt, le_of_lt, mul-le-mul_right, mod-eq_of_lt, mul_assoc, mul-one, div-le_self, mul-div_cancel, arith, lit<, lit≤, ltb→lt, nltb→le, pow_pos, pow_mono, pow-add, shl_lt, shr_lt, le-ltb, lt-ltb}
+use Rattle.std.proofs.Common.{Option, Some, None, ◌≡◌, ℕ, zero, suc, ◌+◌, ◌-◌, ◌*◌, ◌/◌, ◌%◌, ◌^◌, ◌<◌, ◌≤◌, min, Bool, true, false, cond, not, T, eqb, ltb, sym, refl, ap, ◌∙◌, subst, le_trans, le_of_eq, lt_of_lt_of_le, le-add_right, lt_of_le_of_lt, le_of_lt, mul-le-mul_right, mod-eq_of_lt, mul_assoc, mul-one, div-le_self, mul-div_cancel, arith, lit<, lit≤, ltb→lt, nltb→le, pow_pos, pow_mono, pow-add, shl_lt, shr_lt, le-ltb, lt-ltb}
 use native.Mathlib.Nat.{div-eq_of_lt}
 use native.Mathlib.Nat.{mul-mod_left}
 use mir.Facts.{no_eqb}
@@ -9,8 +9,15 @@ use lib.Ieee.Fits.{down_pos}
 use lib.Ieee.Bits.{cond_no}
 use lib.Ieee.Exact.{HasValue, odd_sign}
 use lib.Ieee.Nearest.{div_same}
-use Rattle.number_casts.specs.declared.WholePart.TheVariants.{Below64, Below127, Beyond}
-use Rattle.number_casts.specs.Whole.{whole_part_of, pick_whole}
+use Rattle.number_casts.specs.declared.WholePart.{WholePart}
+use Rattle.number_casts.specs.declared.WholePart.TheVariants.{Below64, Below127}
+use Rattle.number_casts.specs.Whole.{whole_part_of}
+
+abbrev pub below64 : ℕ → Option WholePart
+below64 q = Some (Below64 q)
+
+abbrev pub below127 : ℕ → Option WholePart
+below127 r = Some (Below127 r)
 
 -- ---- the whole part of a value, from a fraction that it equals
 unsigned_val : (y : Float) (a c : ℕ) → 0 < c → HasValue y false a c → to_unsigned 128 y ≡ min (a / c) (2 ^ 128 - 1)
@@ -99,25 +106,25 @@ module _ (d : ℕ) (D : d < 2 ^ 52) where
       more h = omega arith
 
 -- ---- what is kept of it
-pub whole_small : (q n : ℕ) → q ≡ n → n < 2 ^ 64 → Below64 n ≡ whole_part_of q
+pub whole_small : (q n : ℕ) → q ≡ n → n < 2 ^ 64 → below64 n ≡ whole_part_of q
 unfolding whole_part_of
-whole_small q n e h = sym (ap whole_part_of e ∙ ap (λ (b : Bool). pick_whole b (Below64 n) (pick_whole (ltb n (2 ^ 127)) (Below127 (n % 2 ^ 64)) Beyond)) (lt-ltb n (2 ^ 64) h))
+whole_small q n e h = sym (ap whole_part_of e ∙ ap (λ (b : Bool). cond b (below64 n) (cond (ltb n (2 ^ 127)) (below127 (n % 2 ^ 64)) None)) (lt-ltb n (2 ^ 64) h))
 
-pub whole_large : (q n r : ℕ) → q ≡ n → 2 ^ 64 ≤ n → n < 2 ^ 127 → n % 2 ^ 64 ≡ r → Below127 r ≡ whole_part_of q
+pub whole_large : (q n r : ℕ) → q ≡ n → 2 ^ 64 ≤ n → n < 2 ^ 127 → n % 2 ^ 64 ≡ r → below127 r ≡ whole_part_of q
 unfolding whole_part_of
 whole_large q n r e h l k =
     sym (ap whole_part_of e
-    ∙ ap (λ (b : Bool). pick_whole b (Below64 n) (pick_whole (ltb n (2 ^ 127)) (Below127 (n % 2 ^ 64)) Beyond)) (le-ltb n (2 ^ 64) h)
-    ∙ ap (λ (b : Bool). pick_whole b (Below127 (n % 2 ^ 64)) Beyond) (lt-ltb n (2 ^ 127) l)
-    ∙ ap Below127 k)
+    ∙ ap (λ (b : Bool). cond b (below64 n) (cond (ltb n (2 ^ 127)) (below127 (n % 2 ^ 64)) None)) (le-ltb n (2 ^ 64) h)
+    ∙ ap (λ (b : Bool). cond b (below127 (n % 2 ^ 64)) None) (lt-ltb n (2 ^ 127) l)
+    ∙ ap below127 k)
 
-pub whole_over : (q n : ℕ) → q ≡ n → 2 ^ 127 ≤ n → Beyond ≡ whole_part_of q
+pub whole_over : (q n : ℕ) → q ≡ n → 2 ^ 127 ≤ n → None ≡ whole_part_of q
 unfolding whole_part_of
 whole_over q n e h =
     let a : 2 ^ 64 ≤ n = le_trans (lit≤ tt) h in
     sym (ap whole_part_of e
-    ∙ ap (λ (b : Bool). pick_whole b (Below64 n) (pick_whole (ltb n (2 ^ 127)) (Below127 (n % 2 ^ 64)) Beyond)) (le-ltb n (2 ^ 64) a)
-    ∙ ap (λ (b : Bool). pick_whole b (Below127 (n % 2 ^ 64)) Beyond) (le-ltb n (2 ^ 127) h))
+    ∙ ap (λ (b : Bool). cond b (below64 n) (cond (ltb n (2 ^ 127)) (below127 (n % 2 ^ 64)) None)) (le-ltb n (2 ^ 64) a)
+    ∙ ap (λ (b : Bool). cond b (below127 (n % 2 ^ 64)) None) (le-ltb n (2 ^ 127) h))
 
 -- ---- by the bits of the magnitude
 pub whole_mag : (m : ℕ) → m < 2 ^ 63 → to_unsigned 128 (of_bits binary64 m) ≡ to_unsigned 128 (of_fields binary64 false (m / 2 ^ 52) (m % 2 ^ 52))
@@ -148,13 +155,13 @@ module _ (m : ℕ) (fit : m < 2 ^ 63) where
   D : m % 2 ^ 52 < 2 ^ 52
   D = omega arith
 
-  pub whole_nan : 0x7ff0_0000_0000_0000 < m → Below64 0 ≡ whole_part_of (to_unsigned 128 (of_bits binary64 m))
+  pub whole_nan : 0x7ff0_0000_0000_0000 < m → below64 0 ≡ whole_part_of (to_unsigned 128 (of_bits binary64 m))
   whole_nan h = whole_small _ 0 (nan_mag m fit h) (lit< tt)
 
-  pub whole_tiny : m / 2 ^ 52 < 1023 → Below64 0 ≡ whole_part_of (to_unsigned 128 (of_bits binary64 m))
+  pub whole_tiny : m / 2 ^ 52 < 1023 → below64 0 ≡ whole_part_of (to_unsigned 128 (of_bits binary64 m))
   whole_tiny h = whole_small _ 0 (whole_mag m fit ∙ at_tiny (m % 2 ^ 52) D (m / 2 ^ 52) h) (lit< tt)
 
-  pub whole_shr : 1023 ≤ m / 2 ^ 52 → m / 2 ^ 52 ≤ 1075 → Below64 ((2 ^ 52 + m % 2 ^ 52) / 2 ^ (1075 - m / 2 ^ 52)) ≡ whole_part_of (to_unsigned 128 (of_bits binary64 m))
+  pub whole_shr : 1023 ≤ m / 2 ^ 52 → m / 2 ^ 52 ≤ 1075 → below64 ((2 ^ 52 + m % 2 ^ 52) / 2 ^ (1075 - m / 2 ^ 52)) ≡ whole_part_of (to_unsigned 128 (of_bits binary64 m))
   whole_shr l h =
       let p : 0 < m / 2 ^ 52 = omega arith in
       let b : 2 ^ 52 + m % 2 ^ 52 < 2 ^ 64 = omega arith in
@@ -167,7 +174,7 @@ module _ (m : ℕ) (fit : m < 2 ^ 63) where
       let e : m / 2 ^ 52 < 2047 = omega arith in
       whole_mag m fit ∙ at_big (m % 2 ^ 52) D (m / 2 ^ 52) l e ∙ min_small _ (2 ^ 128 - 1) (le_trans (le_of_lt (big_hi (m % 2 ^ 52) D 74 (m / 2 ^ 52 - 1075) h)) (lit≤ tt))
 
-  pub whole_shl : 1075 < m / 2 ^ 52 → m / 2 ^ 52 - 1075 < 12 → Below64 ((2 ^ 52 + m % 2 ^ 52) * 2 ^ (m / 2 ^ 52 - 1075) % 2 ^ 64) ≡ whole_part_of (to_unsigned 128 (of_bits binary64 m))
+  pub whole_shl : 1075 < m / 2 ^ 52 → m / 2 ^ 52 - 1075 < 12 → below64 ((2 ^ 52 + m % 2 ^ 52) * 2 ^ (m / 2 ^ 52 - 1075) % 2 ^ 64) ≡ whole_part_of (to_unsigned 128 (of_bits binary64 m))
   whole_shl l h =
       let l' : 1075 ≤ m / 2 ^ 52 = omega arith in
       let h' : m / 2 ^ 52 - 1075 ≤ 74 = omega arith in
@@ -177,7 +184,7 @@ module _ (m : ℕ) (fit : m < 2 ^ 63) where
       whole_small _ _ (big_is l' h' ∙ sym e) (subst (λ (x : ℕ). x < 2 ^ 64) (sym e) b)
 
   pub whole_low : 1075 < m / 2 ^ 52 → 12 ≤ m / 2 ^ 52 - 1075 → m / 2 ^ 52 - 1075 < 75 → (r : ℕ) → (2 ^ 52 + m % 2 ^ 52) * 2 ^ (m / 2 ^ 52 - 1075) % 2
-      ^ 64 ≡ r → Below127 r ≡ whole_part_of (to_unsigned 128 (of_bits binary64 m))
+      ^ 64 ≡ r → below127 r ≡ whole_part_of (to_unsigned 128 (of_bits binary64 m))
   whole_low l a h r e =
       let l' : 1075 ≤ m / 2 ^ 52 = omega arith in
       let h' : m / 2 ^ 52 - 1075 ≤ 74 = omega arith in
@@ -194,10 +201,10 @@ module _ (m : ℕ) (fit : m < 2 ^ 63) where
   le_min : (a b c : ℕ) → c ≤ a → c ≤ b → c ≤ min a b
   le_min a b c h k = omega arith
 
-  pub whole_past : m ≤ 0x7ff0_0000_0000_0000 → 1075 < m / 2 ^ 52 → 75 ≤ m / 2 ^ 52 - 1075 → Beyond ≡ whole_part_of (to_unsigned 128 (of_bits binary64 m))
+  pub whole_past : m ≤ 0x7ff0_0000_0000_0000 → 1075 < m / 2 ^ 52 → 75 ≤ m / 2 ^ 52 - 1075 → None ≡ whole_part_of (to_unsigned 128 (of_bits binary64 m))
   whole_past t l a = go (ltb (m / 2 ^ 52) 2047) (ltb→lt (m / 2 ^ 52) 2047) (nltb→le (m / 2 ^ 52) 2047)
     where
-      go : (b : Bool) → (T b → m / 2 ^ 52 < 2047) → (T (not b) → 2047 ≤ m / 2 ^ 52) → Beyond ≡ whole_part_of (to_unsigned 128 (of_bits binary64 m))
+      go : (b : Bool) → (T b → m / 2 ^ 52 < 2047) → (T (not b) → 2047 ≤ m / 2 ^ 52) → None ≡ whole_part_of (to_unsigned 128 (of_bits binary64 m))
       go true y n =
           let l' : 1075 ≤ m / 2 ^ 52 = omega arith in
           whole_over _ _ (whole_mag m fit ∙ at_big (m % 2 ^ 52) D (m / 2 ^ 52) l' (y tt)) (le_min _ (2 ^ 128 - 1) (2 ^ 127) (big_lo (m % 2 ^ 52) D 75

@@ -22,7 +22,7 @@ pub fn number_of_payload(code: u8, w: u64) -> Option<Number>
     values::number_in(values::value_at(u64::from(code), w))
 }
 
-// The target with the number that a Cast instruction holds, where there is one.
+// The target with the number that a Cast instruction holds, where there is one: the numbers are the image's, in an order of their own.
 pub fn cast_target(number: u64) -> Option<CastTarget>
     ensures { result ≡ cast_target_of number }
 {

@@ -1,9 +1,7 @@
 -- The order of signs and magnitudes. Assumes nothing.
 use mathlib.Core.Path.{◌≡◌, refl, sym, ap, ◌∙◌}
-use mathlib.Core.Bool.{Bool, true, false, not, cond}
-use Prim.Native.Nat.{ℕ, zero, suc}
-use lib.Dec.{ltb, eqb, leb-zero, leb-suc-zero, leb-suc-suc, eqb-suc-zero}
-use lib.IntN.{ℤ, pos, neg_ℤ}
+use mathlib.Core.Bool.{Bool, true, false, cond}
+use lib.IntN.{ℤ}
 use lib.Signed.{lt_z}
 use Rattle.std.specs.declared.cmp.Ordering.TheVariants.{Less, Equal, Greater}
 use lib.Ieee.{Float, lt, eq}
@@ -11,30 +9,6 @@ use Rattle.std.specs.Prelude.{Some, None, T}
 use Rattle.std.specs.Ordering.{float_partial_cmp}
 use Rattle.std.proofs.lemmas.Float.{eq_flip, eq-not_lt}
 use Rattle.numbers.specs.Compare.{integer_order, float_order}
-
-pub lt_nn : (m n : ℕ) → ltb n m ≡ lt_z (neg_ℤ (pos m)) (neg_ℤ (pos n))
-lt_nn zero zero = refl
-lt_nn zero (suc n) = leb-suc-zero (suc n)
-lt_nn (suc m) zero = leb-suc-suc 0 m ∙ leb-zero m
-lt_nn (suc m) (suc n) = leb-suc-suc (suc n) m
-
-pub lt_pn : (m n : ℕ) → false ≡ lt_z (pos m) (neg_ℤ (pos n))
-lt_pn m zero = sym (leb-suc-zero m)
-lt_pn m (suc n) = refl
-
-pub lt_np : (m n : ℕ) → (m ≡ 0 → ⊥) → not (eqb m 0) ≡ lt_z (neg_ℤ (pos m)) (pos n)
-lt_np zero n h = absurd (h refl)
-lt_np (suc m) n h = ap not (eqb-suc-zero m)
-
-pub lt_0p : (m n : ℕ) → m ≡ 0 → not (eqb n 0) ≡ lt_z (neg_ℤ (pos m)) (pos n)
-lt_0p m n e = zero_case n ∙ ap (λ (k : ℕ). lt_z (neg_ℤ (pos k)) (pos n)) (sym e)
-  where
-    zero_case : (n : ℕ) → not (eqb n 0) ≡ lt_z (pos 0) (pos n)
-    zero_case zero = refl
-    zero_case (suc n) = ap not (eqb-suc-zero n) ∙ sym (leb-suc-suc 0 n ∙ leb-zero n)
-
-pub under : {a b x y : ℤ} → x ≡ a → y ≡ b → lt_z a b ≡ lt_z x y
-under {b = b} {x = x} p q = ap (λ (z : ℤ). lt_z z b) (sym p) ∙ ap (λ (z : ℤ). lt_z x z) (sym q)
 
 -- ---- the three answers of a comparison of integers, from its two tests
 pub order_less : (a b : ℤ) → lt_z a b ≡ true → Less ≡ integer_order a b

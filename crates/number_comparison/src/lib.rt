@@ -10,6 +10,8 @@ use number_operands::{OperandPair, SignMagnitude, pair_of};
 use numbers::{ComparisonFault, Number};
 use std::cmp::Ordering;
 
+// A function of two numbers' order, and no `Ord` of the type: 0 and -0 are one number and two values of it, so the order needs an equality of its own
+// beside it, with no other caller.
 fn is_below(a: SignMagnitude, b: SignMagnitude) -> bool
     ensures { result ≡ lt_z (value_of a) (value_of b) }
 {
@@ -53,6 +55,7 @@ pub fn compare(a: Number, b: Number) -> Result<Ordering, ComparisonFault>
     }
 }
 
+// The four are `compare` and one method of Ordering each, as in std's PartialOrd: one function with the method as its parameter would not be shorter.
 pub fn less(a: Number, b: Number) -> Result<bool, ComparisonFault>
     ensures { result ≡ less_of a b }
 {

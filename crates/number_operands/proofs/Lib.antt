@@ -1,3 +1,2 @@
--- What a sign and a magnitude stands for, and two operands of one kind.
+-- What a sign and a magnitude stands for.
 pub mod SignMagnitudes
-pub mod Pairs

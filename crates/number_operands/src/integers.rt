@@ -1,28 +1,31 @@
 // Integers by sign and magnitude, and by their bits in two's complement: what the eight integer kinds share.
 ghost use Rattle.std.specs.Prelude.{◌≡◌, pos};
+ghost use Rattle.kinds.specs.Codes.{code_of};
 ghost use Rattle.numbers.specs.Kinds.{int_kind_code, least_magnitude, greatest, in_range, as_kind, low_bits, wrapping};
 ghost use Rattle.number_operands.specs.Operands.{value_of};
 ghost use Rattle.numbers.specs.Arithmetic.{checked as checked_of};
 
 use super::SignMagnitude;
+use kinds::Kind;
 use numbers::{IntKind, Number, NumberFault};
 
-pub fn int_kind_code(kind: IntKind) -> u8
-    ensures { result ≡ int_kind_code kind }
+pub fn int_kind_of(kind: IntKind) -> Kind
+    ensures { code_of result ≡ int_kind_code kind }
 {
     match kind {
-        IntKind::I64 => 1,
-        IntKind::U64 => 2,
-        IntKind::I32 => 3,
-        IntKind::U32 => 4,
-        IntKind::U8 => 10,
-        IntKind::I8 => 11,
-        IntKind::U16 => 12,
-        IntKind::I16 => 13,
+        IntKind::I64 => Kind::Int,
+        IntKind::U64 => Kind::UInt,
+        IntKind::I32 => Kind::SInt,
+        IntKind::U32 => Kind::SUInt,
+        IntKind::U8 => Kind::Byte,
+        IntKind::I8 => Kind::SByte,
+        IntKind::U16 => Kind::BByte,
+        IntKind::I16 => Kind::BSByte,
     }
 }
 
-// The least number of the kind, without its sign.
+// The least number of the kind, without its sign. This and the next are tables of the kinds' bounds: worked out from a kind's bits and whether it has a
+// sign, they would be two more tables and two more computations.
 pub fn least_magnitude(kind: IntKind) -> u64
     ensures { result ≡ least_magnitude kind }
 {

@@ -5,9 +5,9 @@
 mod integers;
 mod operands;
 
-pub use integers::{checked, in_range, int_kind_code, number_of_word, word_of};
+pub use integers::{checked, in_range, int_kind_of, number_of_word, word_of};
 use numbers::IntKind;
-pub use operands::{kind_code, pair_of};
+pub use operands::{kind_of, pair_of};
 
 // An integer of at most 65 bits with its sign. Zero may have either sign.
 #[derive(Clone, Copy)]

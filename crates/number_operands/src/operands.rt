@@ -1,27 +1,28 @@
 // A number's kind, and one or two numbers taken apart.
 ghost use Rattle.std.specs.Prelude.{◌≡◌, false};
+ghost use Rattle.kinds.specs.Codes.{code_of};
 ghost use Rattle.numbers.specs.Kinds.{kind_code};
 ghost use Rattle.numbers.specs.Scalars.{integer, scalar_of, same_kind};
 ghost use Rattle.number_operands.specs.Operands.{operand_scalar, operand_pair};
 
 use super::{Operand, OperandPair, SignMagnitude};
+use kinds::Kind;
 use numbers::{IntKind, Number};
 
-// The code of a number's kind in images and results.
-pub fn kind_code(a: Number) -> u8
-    ensures { result ≡ kind_code a }
+pub fn kind_of(a: Number) -> Kind
+    ensures { code_of result ≡ kind_code a }
 {
     match a {
-        Number::Int(_) => 1,
-        Number::UInt(_) => 2,
-        Number::SInt(_) => 3,
-        Number::SUInt(_) => 4,
-        Number::Float(_) => 5,
-        Number::SFloat(_) => 6,
-        Number::Byte(_) => 10,
-        Number::SByte(_) => 11,
-        Number::BByte(_) => 12,
-        Number::BSByte(_) => 13,
+        Number::Int(_) => Kind::Int,
+        Number::UInt(_) => Kind::UInt,
+        Number::SInt(_) => Kind::SInt,
+        Number::SUInt(_) => Kind::SUInt,
+        Number::Float(_) => Kind::Float,
+        Number::SFloat(_) => Kind::SFloat,
+        Number::Byte(_) => Kind::Byte,
+        Number::SByte(_) => Kind::SByte,
+        Number::BByte(_) => Kind::BByte,
+        Number::BSByte(_) => Kind::BSByte,
     }
 }
 

@@ -43,7 +43,7 @@ fn without_sign(numbers: u64) -> NarrowKind
     }
 }
 
-// The kind of a code, if it is an integer's and has at most 32 bits.
+// The kind of a code, if it is an integer's and has at most 32 bits. By the number: the code is a word that may be no kind's, and is judged once.
 pub fn narrow_kind(code: u64) -> Option<NarrowKind>
     ensures { result ≡ narrow_kind code }
 {
@@ -71,36 +71,34 @@ fn turned(n: NarrowKind, p: u64) -> u64
     }
 }
 
+// The word at the place so far up and then so far down, or none where that is no place: there the number overflows.
+fn word_at(n: NarrowKind, up: u64, down: u64) -> Option<u64>
+    requires { (k : IntKind) × IsOf k n }
+    ensures { (k : IntKind) → IsOf k n → answer_in k result ≡ checked k (sub_ℕ up (n.negatives + down)) }
+{
+    let Some(place) = up.checked_sub(down) else {
+        return None;
+    };
+    if place < n.numbers {
+        Some(turned(n, place))
+    } else {
+        None
+    }
+}
+
 // The operations answer the word of the number, or none where it overflows.
 pub fn add_words(n: NarrowKind, p: u64, q: u64) -> Option<u64>
     requires { ((k : IntKind) × IsOf k n) × (p < n.numbers) × (q < n.numbers) }
     ensures { (k : IntKind) → IsOf k n → answer_in k result ≡ checked k (wrapping k (pos p) +ℤ wrapping k (pos q)) }
 {
-    let sum = turned(n, p) + turned(n, q);
-    if sum < n.negatives {
-        return None;
-    }
-    let place = sum - n.negatives;
-    if place < n.numbers {
-        return Some(turned(n, place));
-    }
-    None
+    word_at(n, turned(n, p) + turned(n, q), n.negatives)
 }
 
 pub fn sub_words(n: NarrowKind, p: u64, q: u64) -> Option<u64>
     requires { ((k : IntKind) × IsOf k n) × (p < n.numbers) × (q < n.numbers) }
     ensures { (k : IntKind) → IsOf k n → answer_in k result ≡ checked k (wrapping k (pos p) -ℤ wrapping k (pos q)) }
 {
-    let sum = turned(n, p) + n.negatives;
-    let y = turned(n, q);
-    if sum < y {
-        return None;
-    }
-    let place = sum - y;
-    if place < n.numbers {
-        return Some(turned(n, place));
-    }
-    None
+    word_at(n, turned(n, p) + n.negatives, turned(n, q))
 }
 
 // How far a place is from zero's.

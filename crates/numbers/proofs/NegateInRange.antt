@@ -26,7 +26,7 @@ at_least U32 s = no s
 at_least U8 s = no s
 at_least U16 s = no s
 
-exactly : (k : IntKind) (z : ℤ) → is_signed k ≡ true → negate_of (as_kind k z) ≡ checked k (neg_ℤ z)
+pub exactly : (k : IntKind) (z : ℤ) → is_signed k ≡ true → negate_of (as_kind k z) ≡ checked k (neg_ℤ z)
 unfolding negate_of checked
 exactly I64 z s = refl
 exactly I32 z s = refl

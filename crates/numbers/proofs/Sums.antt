@@ -1,10 +1,9 @@
 -- The sum, the product and the quotient of signs and magnitudes, and what a product past 64 bits says. Assumes nothing.
-use mathlib.Core.Path.{◌≡◌, refl, sym, ap, ◌∙◌, subst}
-use mathlib.Core.Bool.{Bool, true, false, not, beq}
-use Prim.Native.Nat.{ℕ, zero, suc, ◌+◌, ◌-◌, ◌*◌, ◌/◌, ◌^◌, ◌<◌, ◌≤◌}
+use mathlib.Core.Path.{◌≡◌, refl, sym, ap, ◌∙◌}
+use mathlib.Core.Bool.{Bool, true, false, beq}
+use Prim.Native.Nat.{ℕ, zero, suc, ◌+◌, ◌-◌, ◌*◌, ◌/◌, ◌≤◌}
 use native.Mathlib.Omega.{arith}
-use native.Mathlib.Nat.{mul_comm, le-div_iff_mul-le, div-lt_iff_lt-mul, mul-zero, zero-mul, zero-div, lt_of_le_of_lt}
-use lib.Dec.{lit<}
+use native.Mathlib.Nat.{mul-zero, zero-mul, zero-div}
 use lib.IntN.{ℤ, pos, neg_ℤ, nat_abs, ◌+ℤ◌, ◌*ℤ◌, neg_ℤ-neg_ℤ, neg_ℤ-+ℤ, +ℤ-neg_ℤ_cancel, +ℤ_comm}
 use lib.Signed.{quot_z}
 use lib.Ieee.{unlike}
@@ -48,10 +47,6 @@ beq_comm true true = refl
 pub sum_other' : (s t : Bool) (m n : ℕ) → beq s t ≡ false → m ≤ n → signed s m +ℤ signed t n ≡ signed t (n - m)
 sum_other' s t m n e h = +ℤ_comm (signed s m) (signed t n) ∙ sum_other t s n m (beq_comm t s ∙ e) h
 
-pub neg_signed : (t : Bool) (n : ℕ) → signed (not t) n ≡ neg_ℤ (signed t n)
-neg_signed false n = refl
-neg_signed true n = sym (neg_ℤ-neg_ℤ (pos n))
-
 -- ---- the product and the quotient
 neg_zero : (k : ℕ) → k ≡ 0 → pos k ≡ neg_ℤ (pos k)
 neg_zero k e = ap pos e ∙ sym (ap (λ (i : ℕ). neg_ℤ (pos i)) e)
@@ -83,20 +78,3 @@ quot_zero k a t n e = simp (eq-eqb (nat_abs (signed t n)) 0 (nat_abs_signed t n 
 pub quot_is : (k : IntKind) (s t : Bool) (m n : ℕ) → (n ≡ 0 → ⊥) → checked_div k (signed s m) (signed t n) ≡ checked k (signed (unlike s t) (m / n))
 unfolding checked_div
 quot_is k s t m n z = simp (ne_eqb (nat_abs (signed t n)) 0 (λ e. z (sym (nat_abs_signed t n) ∙ e)), quotient s t m n z)
-
--- ---- a product of two magnitudes is one, or is past every kind
-pub product_fits : (m n : ℕ) → 0 < m → n ≤ (2 ^ 64 - 1) / m → m * n < 2 ^ 64
-product_fits m n M h = subst (λ (x : ℕ). x < 2 ^ 64) (mul_comm n m) (lt_of_le_of_lt ((le-div_iff_mul-le M).0 h) (lit< tt))
-
-pub product_past : (m n : ℕ) → 0 < m → (2 ^ 64 - 1) / m < n → 2 ^ 64 ≤ m * n
-product_past m n M h = subst (λ (x : ℕ). 2 ^ 64 ≤ x) (mul_comm n m) ((div-lt_iff_lt-mul M).0 h)
-
-pub positive : (m : ℕ) → (m ≡ 0 → ⊥) → 0 < m
-positive m h = omega arith
-
-pub product_zero : (s t : Bool) (m n : ℕ) → m ≡ 0 → signed s m *ℤ signed t n ≡ pos 0
-product_zero s t m n e = product s t m n ∙ ap (λ (k : ℕ). signed (unlike s t) (k * n)) e ∙ ap (signed (unlike s t)) (zero-mul n) ∙ zero (unlike s t)
-  where
-    zero : (s : Bool) → signed s 0 ≡ pos 0
-    zero true = refl
-    zero false = refl

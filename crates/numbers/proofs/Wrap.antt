@@ -1,23 +1,17 @@
 -- Wrapping: the low bits of an integer in two's complement, read as a number of a kind. For every kind. Assumes nothing.
-use mathlib.Core.Path.{◌≡◌, refl, sym, ap, ◌∙◌, subst}
+use mathlib.Core.Path.{◌≡◌, refl, sym, ap, ◌∙◌}
 use mathlib.Core.Bool.{Bool, true, false, cond}
 use Prim.Native.Nat.{ℕ, zero, suc, ◌+◌, ◌-◌, ◌*◌, ◌/◌, ◌%◌, ◌^◌, ◌<◌, ◌≤◌}
 use native.Mathlib.Omega.{arith}
 use native.Mathlib.Nat.{mod-eq_of_lt, mod-lt, pow-suc, add-mul, div-add-mod'}
-use lib.Dec.{ltb}
 use lib.Arith.{comp_comp}
 use lib.Pow.{pow_pos, pow-add, low, shr_lt, mod-mod-pow}
-use lib.IntN.{ℤ, pos, negsuc, neg_ℤ, ◌-ℤ◌}
+use lib.IntN.{ℤ, pos, negsuc, neg_ℤ}
 use lib.Signed.{mag}
-use mir.Syntax.{Width}
-use mir.Val.{SFits, to_z, of_z, bits, hbits}
-use mir.ValLaws.{pow-bits}
-use mir.Facts.{to_z-of_z, to_z_pos}
 use borrow.Author.Tests.{lt-ltb, le-ltb}
 use Rattle.numbers.specs.declared.IntKind.{IntKind}
 use Rattle.numbers.specs.declared.IntKind.TheVariants.{I64, U64, I32, U32, U8, I8, U16, I16}
 use Rattle.numbers.specs.Kinds.{bits_of, is_signed, in_range, low_bits, twos_complement, wrapping}
-use Rattle.numbers.proofs.Signs.{minus_pos}
 use Rattle.numbers.proofs.Ranges.{in_signed, in_unsigned, no_negative}
 
 -- ---- fewer low bits of more low bits
@@ -118,16 +112,10 @@ wrapping_in k z h = go (is_signed k) refl
     go true e = with_sign k z e h
     go false e = without_sign k z e h
 
--- ---- subtraction from zero, wrapping at 64 bits
-from_zero : (n r : ℕ) → n < 2 ^ 64 → r < 2 ^ 64 → (r + n) % 2 ^ 64 ≡ 0 → r ≡ (2 ^ 64 - n) % 2 ^ 64
-from_zero n r h l e = omega arith
-
+-- ---- the words of a number and its negative at 64 bits
 low_neg : (n : ℕ) → low_bits 64 (neg_ℤ (pos n)) ≡ (2 ^ 64 - n % 2 ^ 64) % 2 ^ 64
 low_neg zero = refl
 low_neg (suc k) = omega arith
-
-pub word_neg : (n r : ℕ) → n < 2 ^ 64 → r < 2 ^ 64 → (r + n) % 2 ^ 64 ≡ 0 → r ≡ low_bits 64 (neg_ℤ (pos n))
-word_neg n r h l e = from_zero n r h l e ∙ ap (λ (k : ℕ). (2 ^ 64 - k) % 2 ^ 64) (sym (mod-eq_of_lt h)) ∙ sym (low_neg n)
 
 pub word_pos : (n : ℕ) → n < 2 ^ 64 → n ≡ low_bits 64 (pos n)
 word_pos n h = sym (mod-eq_of_lt h)
@@ -138,20 +126,3 @@ neg_word n w e = low_neg w ∙ ap (λ (k : ℕ). (2 ^ 64 - k) % 2 ^ 64) (again n
   where
     again : (n w : ℕ) → w ≡ n % 2 ^ 64 → w % 2 ^ 64 ≡ n % 2 ^ 64
     again n w e = omega arith
-
--- ---- a word with its highest bit set, as a signed number of the width u: -1 - (2^bits - 1 - n)
-pub record Upper (u : Width) (n : ℕ) : Type 0 where
-  pub less : SFits u (negsuc 0 -ℤ to_z u (2 ^ bits u - 1 - n))
-  pub is : to_z u (of_z u (negsuc 0 -ℤ to_z u (2 ^ bits u - 1 - n))) ≡ cond (ltb n (2 ^ hbits u)) (pos n) (negsuc (2 ^ bits u - suc n))
-
-pub upper : (u : Width) (n : ℕ) → n < 2 ^ bits u → 2 ^ hbits u ≤ n → Upper u n
-upper u n h k =
-    let p : 2 ^ bits u ≡ 2 ^ hbits u * 2 = pow-bits u in
-    let l : 2 ^ bits u - 1 - n < 2 ^ hbits u = omega arith in
-    let e : 2 ^ bits u - 1 - n ≡ 2 ^ bits u - suc n = omega arith in
-    let f : SFits u (negsuc (2 ^ bits u - 1 - n)) = record { sfits = l } in
-    let w : negsuc 0 -ℤ to_z u (2 ^ bits u - 1 - n) ≡ negsuc (2 ^ bits u - 1 - n) = ap (λ (y : ℤ). negsuc 0 -ℤ y) (to_z_pos u l) ∙ minus_pos (2 ^ bits u - 1 - n) in
-    record {
-      less = subst (λ (y : ℤ). SFits u y) (sym w) f;
-      is = ap (λ (y : ℤ). to_z u (of_z u y)) w ∙ to_z-of_z f ∙ ap negsuc e ∙ sym (ap (λ (b : Bool). cond b (pos n) (negsuc (2 ^ bits u - suc n))) (le-ltb n (2 ^ hbits u) k));
-    }

@@ -28,6 +28,7 @@ impl From<ComparisonFault> for u8 {
     }
 }
 
+// Two functions, of one match each: a common one needs a trait for the two kinds of fault beside their `From`, and saves no line.
 pub fn fault_number(answer: Result<Number, NumberFault>) -> u8
     ensures { result ≡ answer_number answer }
 {

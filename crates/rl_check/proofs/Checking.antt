@@ -1,11 +1,12 @@
 -- From what `load` and `check_image` ensure to what `check` ensures.
-use mathlib.Core.Path.{◌≡◌, refl, sym, ◌∙◌}
+use mathlib.Core.Path.{◌≡◌, refl, sym, ap, ◌∙◌}
 use mathlib.Core.Bool.{Bool, true, false}
 use mathlib.Core.Logic.{◌⊎◌, inl, inr}
 use mathlib.Core.List.{List}
-use Prim.Native.Nat.{ℕ, ◌≤◌, ◌<◌}
+use Prim.Native.Nat.{ℕ, ◌*◌, ◌≤◌}
 use native.Mathlib.Omega.{arith}
-use borrow.Author.Tests.{lt-ltb, le-ltb}
+use borrow.Author.Tests.{le-ltb}
+use Rattle.std.proofs.Common.{◌||◌, ltb}
 use lib.ListN.{length}
 use Rattle.definition.specs.Image.{Chunk, Image}
 use Rattle.definition.specs.Lines.{image, refused, load_image}
@@ -20,12 +21,13 @@ use Rattle.image_records.specs.declared.Reason.TheVariants.{ShortSlice}
 use Rattle.image.specs.declared.Counts.{Counts}
 use Rattle.image_store.specs.declared.Refusal.{Refusal}
 use Rattle.std.proofs.Common.{Ok, Err}
-use Rattle.image.proofs.Found.{found, refused_as}
+use Rattle.image.proofs.Found.{found, rows_within, refused_as}
 use Rattle.stack_check.specs.Answer.{ChunkHeld, ImageHeld, Lent, Decided, checked_of}
+use Rattle.image.specs.declared.loaded.Loaded.{Loaded}
 use Rattle.stack_check.specs.Answer as answer
 use Rattle.stack_check.specs.declared.ImageFault.{ImageFault}
 use Rattle.std.proofs.Common.{Ok, Err}
-use Rattle.rl_check.specs.Work.{CheckWork, check_short}
+use Rattle.rl_check.specs.Work.{CheckWork, is_short, check_short}
 use Rattle.rl_check.specs.Check.{answer_of, Checks, Ready, Judges}
 use Rattle.rl_check.specs.declared.CheckAnswer.{CheckAnswer}
 use Rattle.rl_check.specs.declared.CheckAnswer.TheVariants.{Refused, Pass, Fault}
@@ -47,36 +49,41 @@ held_chunk h =
 image_held : {m : Slices} {n : Counts} {im : Image} → Held m n im → ImageHeld m.bytes m.kinds m.table n.chunks im
 image_held h = record { count = h.chunk_count; held = λ c l. held_chunk (h.chunks_held c l) }
 
--- what the stack check is lent
-module _ {bytes kinds table : List ℕ} {chunks : ℕ} where
-  pub lent :
-      {hs ds ts hs' ds' ts' : List ℕ} → Ready bytes kinds table chunks hs ds ts → length hs' ≡ 4096 → length ds' ≡ 4096 → length ts' ≡ 4096
-      → Lent bytes kinds table chunks hs' ds' ts'
-  lent R e f g =
-      (R.found, R.held, record { heights = λ c l. let s = (R.kept.chunks_kept c l).short_code in omega arith; depths = omega arith; todo = omega arith })
+-- what the stack check is lent, and what it answers
+module _ (m : Loaded) where
+  pub lent : {room : ℕ} → Ready m room → Lent m room
+  lent R = (R.found, R.held, λ c l. let s = (R.kept.chunks_kept c l).short_code in omega (arith, R.long))
 
-  -- what it answers
-  pub passes_judged : (r : answer.CheckAnswer) {u : Unit {0}} → r ≡ Ok u → Decided bytes kinds table chunks r → Judges bytes kinds table chunks Pass
+  pub passes_judged : (r : answer.CheckAnswer) {u : Unit {0}} → r ≡ Ok u → Decided m r → Judges m Pass
   passes_judged r e D im h = rw e at ((D im h (checked_of r)).0 refl)
 
-  pub fault_judged :
-      (r : answer.CheckAnswer) (f : ImageFault) → r ≡ Err f → Decided bytes kinds table chunks r
-      → Judges bytes kinds table chunks (Fault f.reason f.chunk f.at)
+  pub fault_judged : (r : answer.CheckAnswer) (f : ImageFault) → r ≡ Err f → Decided m r → Judges m (Fault f.reason f.chunk f.at)
   fault_judged r f e D im h = rw e at ((D im h (checked_of r)).0 refl)
+
+in_load : (a b c d : Bool) → (a || (b || c)) ≡ true → (a || (b || (c || d))) ≡ true
+in_load true b c d e = refl
+in_load false true c d e = refl
+in_load false false true d e = refl
+in_load false false false d e = true_not_false (sym e)
 
 -- a slice is short
 module _ (w : CheckWork) where
-  pub short_heights : length w.heights < 4096 → check_short w ≡ true
+  pub short_three : is_short (length w.heights) (length w.depths) (length w.todo) ≡ true → check_short w ≡ true
   unfolding check_short
-  short_heights h = rw (lt-ltb (length w.heights) 4096 h)
+  short_three e = in_load (ltb (length w.heights) 4096) (ltb (length w.depths) 4096) (ltb (length w.todo) 4096) (short w.loading) e
 
-  pub short_depths : 4096 ≤ length w.heights → length w.depths < 4096 → check_short w ≡ true
+  as_load : 4096 ≤ length w.heights → 4096 ≤ length w.depths → 4096 ≤ length w.todo → check_short w ≡ short w.loading
   unfolding check_short
-  short_depths g h = rw (le-ltb (length w.heights) 4096 g, lt-ltb (length w.depths) 4096 h)
+  as_load f g h = rw (le-ltb (length w.heights) 4096 f, le-ltb (length w.depths) 4096 g, le-ltb (length w.todo) 4096 h)
 
-  pub short_todo : 4096 ≤ length w.heights → 4096 ≤ length w.depths → length w.todo < 4096 → check_short w ≡ true
-  unfolding check_short
-  short_todo f g h = rw (le-ltb (length w.heights) 4096 f, le-ltb (length w.depths) 4096 g, lt-ltb (length w.todo) 4096 h)
+-- an answer in slices of which only the first elements are lent
+pub checks_more :
+    {bytes : List ℕ} {r : CheckAnswer} (w v : CheckWork) → w.loading ≡ v.loading
+    → 4096 ≤ length w.heights → 4096 ≤ length w.depths → 4096 ≤ length w.todo → 4096 ≤ length v.heights → 4096 ≤ length v.depths → 4096 ≤ length v.todo
+    → Checks bytes w r → Checks bytes v r
+checks_more w v e f g h i j k C =
+    let same : check_short v ≡ check_short w = as_load v i j k ∙ sym (ap short e) ∙ sym (as_load w f g h) in
+    record { short = rw same C.short; decides = rw same C.decides; protected = C.protected }
 
 module _ (bytes : List ℕ) (w : CheckWork) where
   pub short_checks : check_short w ≡ true → Checks bytes w (Refused ShortSlice 0)
@@ -88,21 +95,20 @@ module _ (bytes : List ℕ) (w : CheckWork) where
       }
 
   module _ (f : 4096 ≤ length w.heights) (g : 4096 ≤ length w.depths) (h : 4096 ≤ length w.todo) where
-    as_load : check_short w ≡ short w.loading
-    unfolding check_short
-    as_load = rw (le-ltb (length w.heights) 4096 f, le-ltb (length w.depths) 4096 g, le-ltb (length w.todo) 4096 h)
+    same : check_short w ≡ short w.loading
+    same = as_load w f g h
 
     -- load refused
     refused_short : (e : Reason) (k : ℕ) → short w.loading ≡ true → refuses (number_of e) k ≡ load_in w.loading bytes → Checks bytes w (Refused e k)
     unfolding load_in
     refused_short e k s l =
         let q = refused_by_nine e k (rw s at l) in
-        rw (q.0, q.1) (short_checks (as_load ∙ s))
+        rw (q.0, q.1) (short_checks (same ∙ s))
 
     refused_long : (e : Reason) (k : ℕ) → short w.loading ≡ false → load_image bytes ≡ refused (number_of e) k → Checks bytes w (Refused e k)
     refused_long e k s l =
         record {
-          short = (λ t. true_not_false (sym t ∙ as_load ∙ s), λ q. absurd (not_nine (nine e (cc)) (low_refusal bytes (number_of e) k l)));
+          short = (λ t. true_not_false (sym t ∙ same ∙ s), λ q. absurd (not_nine (nine e (cc)) (low_refusal bytes (number_of e) k l)));
           decides = λ _. bytes_settled bytes (answer_of (Refused e k)) (rw l refl);
           protected = λ q. never (cc);
         }
@@ -126,13 +132,17 @@ module _ (bytes : List ℕ) (w : CheckWork) where
       there : Found bytes w.loading m n
       there = found bytes w.loading m r n q l
 
-      pub ready : Ready m.bytes m.kinds m.table n.chunks w.heights w.depths w.todo
-      ready = record { found = there.found; held = image_held there.held; kept = there.kept; heights = f; depths = g; todo = h }
+      pub rows : 4 * n.chunks ≤ length m.table
+      rows = rows_within there.held
 
-      pub loaded_checks : (a : CheckAnswer) → Judges m.bytes m.kinds m.table n.chunks a → Checks bytes w a
+      pub ready : (x : Loaded) {room : ℕ} → x.bytes.now ≡ m.bytes → x.kinds.now ≡ m.kinds → x.table.now ≡ m.table → x.counts ≡ n → 4096 ≤ room → Ready x room
+      ready x a b c d e = record { found = there.found; held = rw (a, b, c, d) (image_held there.held); kept = there.kept; long = e }
+
+      pub loaded_checks :
+          (a : CheckAnswer) → ((im : Image) → ImageHeld m.bytes m.kinds m.table n.chunks im → AnswersLoaded (image im) (answer_of a)) → Checks bytes w a
       loaded_checks a j =
           record {
-            short = (λ t. true_not_false (sym t ∙ as_load ∙ there.long), λ e. absurd (rw e at here));
+            short = (λ t. true_not_false (sym t ∙ same ∙ there.long), λ e. absurd (rw e at here));
             decides = λ _. bytes_settled bytes (answer_of a) answers;
             protected = λ e im i budget. passed_protected bytes im i (rw e at answers) budget;
           }

@@ -1,5 +1,5 @@
 -- What `check` answers (document 01, "Answers of each operation", "The stack check").
-use Rattle.std.specs.Prelude.{◌≡◌, true, false, ◌↔◌, List, ℕ, ◌≤◌, length}
+use Rattle.std.specs.Prelude.{◌≡◌, true, false, ◌↔◌, List, ℕ, ◌≤◌}
 use Rattle.definition.specs.Image.{Image}
 use Rattle.definition.specs.Lines.{image, load_image}
 use Rattle.definition.specs.Loaded.{ImageKept}
@@ -9,8 +9,9 @@ use Rattle.definition.specs.CheckAnswer.{pass, fails}
 use Rattle.definition.specs.Answers as definition
 use Rattle.definition.specs.Callers.{Protected}
 use Rattle.image.specs.Answer.{number_of}
+use Rattle.image.specs.declared.loaded.Loaded.{Loaded}
 use Rattle.image_records.specs.declared.Reason.TheVariants.{ShortSlice}
-use Rattle.stack_check.specs.Answer.{reason_number, ImageHeld}
+use Rattle.stack_check.specs.Answer.{reason_number, Holds}
 use Rattle.rl_check.specs.Work.{CheckWork, check_short}
 use Rattle.rl_check.specs.declared.CheckAnswer.{CheckAnswer}
 use Rattle.rl_check.specs.declared.CheckAnswer.TheVariants.{Refused, Pass, Fault}
@@ -35,15 +36,13 @@ pub record Checks (bytes : List ℕ) (w : CheckWork) (r : CheckAnswer) : Type 0 
   -- what a pass promises of every run
   pub protected : r ≡ Pass → EveryRunProtected bytes
 
--- Inner step: an image that was loaded lies in the slices, and the three of the stack check are long enough for any
-pub record Ready (bytes kinds table : List ℕ) (chunks : ℕ) (hs ds ts : List ℕ) : Type 0 where
+-- Inner step: an image that was loaded lies in the slices, and there is room for the stack check of any
+pub record Ready (m : Loaded) (room : ℕ) : Type 0 where
   pub found : Image
-  pub held : ImageHeld bytes kinds table chunks found
+  pub held : Holds m found
   pub kept : ImageKept found
-  pub heights : 4096 ≤ length hs
-  pub depths : 4096 ≤ length ds
-  pub todo : 4096 ≤ length ts
+  pub long : 4096 ≤ room
 
 -- Inner step: r is what the rules say of every image that lies in the slices
-abbrev pub Judges : List ℕ → List ℕ → List ℕ → ℕ → CheckAnswer → Type 0
-Judges bytes kinds table chunks r = (im : Image) → ImageHeld bytes kinds table chunks im → definition.AnswersLoaded (image im) (answer_of r)
+abbrev pub Judges : Loaded → CheckAnswer → Type 0
+Judges m r = (im : Image) → Holds m im → definition.AnswersLoaded (image im) (answer_of r)

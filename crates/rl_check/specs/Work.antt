@@ -14,6 +14,10 @@ pub record CheckWork : Type 0 where
 abbrev pub check_work : Slices → List ℕ → List ℕ → List ℕ → CheckWork
 check_work m h d t = record { loading = m; heights = h; depths = d; todo = t }
 
+-- whether one of the three is below 4,096, by their lengths
+abbrev pub is_short : ℕ → ℕ → ℕ → Bool
+is_short h d t = ltb h 4096 || (ltb d 4096 || ltb t 4096)
+
 -- "9 exactly if a work slice is below its length named in docs/": those of `load`, and 4,096 for each of the three, since "code a chunk 4,096 bytes"
 unfoldable pub check_short : CheckWork → Bool
 check_short w =

@@ -4,15 +4,16 @@
 pub mod least; // the least lengths of its own work slices
 mod numbers_of; // document 01's numbers of the answers
 
+ghost use Rattle.std.specs.Prelude.{◌≡◌, false, ◌≤◌, length};
 ghost use Rattle.image.specs.Answer.{slices};
-ghost use Rattle.rl_check.specs.Work.{check_work, CheckZero};
+ghost use Rattle.rl_check.specs.Work.{is_short, check_work, CheckZero};
 ghost use Rattle.rl_check.specs.Check.{Checks, Ready, Judges};
 
 use clearing::clear;
-use image::load;
+use image::{Loaded, load};
 use load_answers::clear_load;
-pub use numbers_of::{CheckNumbers, fault_number};
-use stack_check::check_image;
+pub use numbers_of::CheckNumbers;
+use stack_check::Work;
 
 // What `check` answers: a refusal with its line, a pass, or the fault with chunk and offset. specs/Check.antt, `answer_of`, gives document 01's
 // number of each. No Result: each caller goes three ways, and would match twice.
@@ -23,34 +24,26 @@ pub enum CheckAnswer {
     Fault(stack_check::Reason, usize, usize),
 }
 
-// The stack check of an image that `load` left in the slices. It is lent no more of the three than the longest code asks for.
-fn check_loaded(
-    bytes: &[u8],
-    kinds: &[u8],
-    table: &[usize],
-    chunks: usize,
-    heights: &mut [usize],
-    depths: &mut [usize],
-    todo: &mut [usize],
-) -> CheckAnswer
-    requires { Ready bytes.now kinds.now table.now chunks heights.old depths.old todo.old }
-    ensures { Judges bytes.now kinds.now table.now chunks result }
+// Whether one of the three slices of the stack check is shorter than docs/OPERATIONS.md says, by their lengths.
+fn is_short(heights: usize, depths: usize, todo: usize) -> bool
+    ensures says { result ≡ is_short heights depths todo }
+    ensures long { result ≡ false → (4096 ≤ heights) × (4096 ≤ depths) × (4096 ≤ todo) }
 {
-    match check_image(
-        bytes,
-        kinds,
-        table,
-        chunks,
-        &mut heights[..least::HEIGHTS],
-        &mut depths[..least::DEPTHS],
-        &mut todo[..least::TODO],
-    ) {
+    heights < least::HEIGHTS || depths < least::DEPTHS || todo < least::TODO
+}
+
+// The stack check of an image that `load` left in the slices.
+fn check_loaded(image: Loaded, work: &mut Work) -> CheckAnswer
+    requires { Ready image (length work.old.heights.now) }
+    ensures { Judges image.entry result }
+{
+    match work.check_image(image) {
         Ok(()) => CheckAnswer::Pass,
         Err(fault) => CheckAnswer::Fault(fault.reason, fault.chunk, fault.at),
     }
 }
 
-// The answer of `check`. The work slices hold what the work left.
+// The answer of `check`, where there is room for the stack check. The work slices hold what the work left.
 fn judge(
     image: &[u8],
     bytes: &mut [u8],
@@ -58,31 +51,30 @@ fn judge(
     kinds: &mut [u8],
     payloads: &mut [u64],
     table: &mut [usize],
-    heights: &mut [usize],
-    depths: &mut [usize],
-    todo: &mut [usize],
+    work: &mut Work,
 ) -> CheckAnswer
-    ensures { Checks image.now (check_work (slices bytes.old ends.old kinds.old payloads.old table.old) heights.old depths.old todo.old) result }
+    requires { 4096 ≤ length work.old.heights.now }
+    ensures { Checks image.now (check_work (slices bytes.old ends.old kinds.old payloads.old table.old) work.old.heights.now work.old.depths.now work.old.todo.now) result }
 {
-    let small = CheckAnswer::Refused(image::Reason::ShortSlice, 0);
-    if heights.len() < least::HEIGHTS {
-        return small;
-    }
-    if depths.len() < least::DEPTHS {
-        return small;
-    }
-    if todo.len() < least::TODO {
-        return small;
-    }
     match load(image, bytes, ends, kinds, payloads, table) {
-        Ok(n) => check_loaded(bytes, kinds, table, n.chunks, heights, depths, todo),
+        Ok(counts) => check_loaded(
+            Loaded {
+                bytes,
+                ends,
+                kinds,
+                payloads,
+                table,
+                counts,
+            },
+            work,
+        ),
         Err(refusal) => CheckAnswer::Refused(refusal.reason, refusal.line),
     }
 }
 
 // Check: loads the image and judges it by the stack check. For any bytes, and whatever the slices held before: 9 exactly if a slice is shorter than
 // its length (docs/OPERATIONS.md); otherwise exactly the answer of document 01's rules. A pass promises that no run of the image costs a caller
-// anything. Every slice is zero to its end afterwards.
+// anything. Every slice is zero to its end afterwards. The slices are eight, of any length, as the C interface lends them.
 pub fn check(
     image: &[u8],
     bytes: &mut [u8],
@@ -97,9 +89,17 @@ pub fn check(
     ensures answer { Checks image.now (check_work (slices bytes.old ends.old kinds.old payloads.old table.old) heights.old depths.old todo.old) result }
     ensures cleared { CheckZero (check_work (slices bytes.new ends.new kinds.new payloads.new table.new) heights.new depths.new todo.new) }
 {
-    let answer = judge(
-        image, bytes, ends, kinds, payloads, table, heights, depths, todo,
-    );
+    let answer = if is_short(heights.len(), depths.len(), todo.len()) {
+        CheckAnswer::Refused(image::Reason::ShortSlice, 0)
+    } else {
+        // No more of the three than the longest code asks for.
+        let mut work = Work {
+            heights: &mut heights[..least::HEIGHTS],
+            depths: &mut depths[..least::DEPTHS],
+            todo: &mut todo[..least::TODO],
+        };
+        judge(image, bytes, ends, kinds, payloads, table, &mut work)
+    };
     clear_load(bytes, ends, kinds, payloads, table);
     clear(heights);
     clear(depths);

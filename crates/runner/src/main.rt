@@ -56,6 +56,7 @@ fn answer_line(image: &[u8]) -> Line
 }
 
 // The line for the input of which the first n bytes of `read` were read. It is the same for every such input, also for one that is longer than `read`.
+// The buffer comes with its count, and not as a slice of what was read: that it is full is what tells an input that may be longer (`ReadOf`).
 fn input_line(read: &[u8], n: usize) -> Line
     requires { (65536 < length read.now) × (n ≤ length read.now) }
     ensures { (input : List ℕ) → ReadOf read.now n input → result.bytes ≡ runner_line input }
@@ -63,6 +64,7 @@ fn input_line(read: &[u8], n: usize) -> Line
     answer_line(&read[..n])
 }
 
+// As the checker's `main`: one function of both would be lent `input_line`, with what that asks and ensures as `F.pre` and `F.post`, and be longer.
 fn main(rt: HostRuntime) {
     let mut read = [0u8; IMAGE_MOST + 1];
     let mut errors = rt.stderr();

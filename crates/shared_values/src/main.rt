@@ -23,22 +23,6 @@ fn say_coded(rt: &impl Print, c: Option<usize>) -> io::Result<()> {
     }
 }
 
-// Two trees with 2^64 leaves compared.
-fn compare(
-    rt: &impl Print,
-    left: Number,
-    left_last: Number,
-    right: Number,
-    right_last: Number,
-    cells: &mut [u64],
-    memo: &mut [u16],
-) -> io::Result<()> {
-    say_compared(
-        rt,
-        compare_nested(left, left_last, right, right_last, 64, cells, memo),
-    )
-}
-
 // A write that fails ends the run with its error.
 fn main(rt: HostRuntime) -> io::Result<()> {
     let mut cells = [0u64; 8192];
@@ -48,22 +32,29 @@ fn main(rt: HostRuntime) -> io::Result<()> {
     let two = Number::Int(2);
     let zero = Number::Float(0.0);
     let minus_zero = Number::Float(-0.0);
-    let nan = Number::Float(0.0 / 0.0);
-    // equal in every leaf; unequal in every leaf; unequal in the last leaf alone
-    compare(&rt, one, one, one, one, &mut cells, &mut memo)?;
-    compare(&rt, one, one, two, two, &mut cells, &mut memo)?;
-    compare(&rt, one, one, one, two, &mut cells, &mut memo)?;
-    // a NaN in every leaf; in the last leaf alone; on one side alone
-    compare(&rt, nan, nan, nan, nan, &mut cells, &mut memo)?;
-    compare(&rt, zero, nan, zero, nan, &mut cells, &mut memo)?;
-    compare(&rt, zero, zero, zero, nan, &mut cells, &mut memo)?;
-    // zeros of both signs, in every leaf and in the last leaf alone
-    compare(
-        &rt, zero, zero, minus_zero, minus_zero, &mut cells, &mut memo,
-    )?;
-    compare(&rt, zero, zero, zero, minus_zero, &mut cells, &mut memo)?;
-    say_coded(&rt, code_nested(one, one, 64, &mut cells, &mut out))?;
-    say_coded(&rt, code_nested(one, two, 64, &mut cells, &mut out))?;
-    say_coded(&rt, code_nested(one, two, 8, &mut cells, &mut out))?;
+    let nan = Number::Float(f64::NAN);
+    // two trees with 2^64 leaves: each with its leaf and its last leaf
+    let pairs = [
+        // equal in every leaf; unequal in every leaf; unequal in the last leaf alone
+        (one, one, one, one),
+        (one, one, two, two),
+        (one, one, one, two),
+        // a NaN in every leaf; in the last leaf alone; on one side alone
+        (nan, nan, nan, nan),
+        (zero, nan, zero, nan),
+        (zero, zero, zero, nan),
+        // zeros of both signs, in every leaf and in the last leaf alone
+        (zero, zero, minus_zero, minus_zero),
+        (zero, zero, zero, minus_zero),
+    ];
+    for (left, left_last, right, right_last) in pairs {
+        let answer = compare_nested(
+            left, left_last, right, right_last, 64, &mut cells, &mut memo,
+        );
+        say_compared(&rt, answer)?;
+    }
+    for (last, depth) in [(one, 64), (two, 64), (two, 8)] {
+        say_coded(&rt, code_nested(one, last, depth, &mut cells, &mut out))?;
+    }
     Ok(())
 }

@@ -3,7 +3,6 @@
 ghost use Rattle.std.specs.Prelude.{[], ◌∷◌, ◌≤◌, length};
 ghost use Rattle.definition.specs.Value.{arr};
 ghost use Rattle.clearing.specs.Zero.{AllZero};
-ghost use Rattle.values.specs.Words.{Fit};
 ghost use Rattle.values.specs.Building.{Builds};
 ghost use Rattle.shared_values.specs.Nested.{NestedAsks, GrownGives, NestedGives, ComparedGives, CodedGives};
 
@@ -13,7 +12,7 @@ use values::{BuildFault, SequenceKind, VmValue};
 
 // The value [x, y].
 fn pair(cells: &mut [u64], nc: usize, x: VmValue, y: VmValue) -> Result<VmValue, BuildFault>
-    requires { (8192 ≤ length cells.old) × (nc ≤ 4096) × Fit x × Fit y }
+    requires { (8192 ≤ length cells.old) × (nc ≤ 4096) }
     ensures { Builds arr (x ∷ y ∷ []) nc cells.old cells.new result }
 {
     let mut parts = [0u64; 4];
@@ -29,11 +28,12 @@ fn grow(
     x: VmValue,
     y: VmValue,
 ) -> Result<(VmValue, VmValue), BuildFault>
-    requires { (8192 ≤ length cells.old) × (nc ≤ 4096) × Fit x × Fit y }
+    requires { (8192 ≤ length cells.old) × (nc ≤ 4096) }
     ensures { GrownGives x y nc cells.old cells.new result }
 {
+    let (left, right) = (x, x);
     let v = pair(cells, nc, x, y)?;
-    let w = pair(cells, nc + 2, x, x)?;
+    let w = pair(cells, nc + 2, left, right)?;
     Ok((v, w))
 }
 

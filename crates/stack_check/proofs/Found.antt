@@ -18,7 +18,7 @@ module _ {c : Chunk} {p : ℕ} {i : Instr} (H : Here c p i) where
   pub drawn : length c.code < 9223372036854775808 + 65536 → Drawn i
   drawn l =
       let x = whole_found c.code p i H.decoded in
-      (p, x.instr, record { is = x.is; small = H.small; room = omega (arith, (behind c.code p i H.decoded).within) })
+      (p, x.instr, record { is = x.is; room = omega (arith, (behind c.code p i H.decoded).within) })
 
   pub node_here : {n : Node} → NodeIs i n → n ≡ node_at c p
   unfolding node_at
@@ -43,4 +43,4 @@ module _ {c : Chunk} {p : ℕ} {r : Result Instr StaticFault} (I : Inspects c p 
   is_clean e = sym I.number ∙ ap number_of e
 
   pub is_here : {i : Instr} → r ≡ Ok i → Here c p i
-  is_here {i} e = let x = I.sound i e in record { decoded = x.0; small = x.1 }
+  is_here {i} e = record { decoded = I.sound i e }

@@ -103,21 +103,21 @@ second_same o table.forks n a e = ap (λ (x : ℕ). n + x) (held_same _ a (rows.
 second_same o table.ends n a e = refl
 second_same o table.may_end n a e = refl
 
--- the node that the code makes, from what its calls gave
+-- the node that the code makes, from what its calls gave; a is the first operand as the code counts with it
 pub node_is :
-    (i : Instr) (f : Flow) (t : FlowEffect) (x y : ℕ) (z : ℤ) → f ≡ i.row.flow → t ≡ flow_effect f → x ≡ first_of f i.next.at i.a
+    (i : Instr) (a : ℕ) (f : Flow) (t : FlowEffect) (x y : ℕ) (z : ℤ) → a ≡ i.a → f ≡ i.row.flow → t ≡ flow_effect f → x ≡ first_of f i.next.at i.a
     → y ≡ second_of f i.next.at i.a
-    → z ≡ i.row.change -ℤ pos (i.row.per * i.a)
-    → NodeIs i (record { need = i.row.need + i.row.per * i.a; change = z; exact = t.exact; drops = t.drops; opens = t.opens; ends = t.ends; first = x; second = y })
-node_is i f t x y z ef et ex ey ez p d e =
+    → z ≡ i.row.change -ℤ pos (i.row.per * a)
+    → NodeIs i (record { need = i.row.need + i.row.per * a; change = z; exact = t.exact; drops = t.drops; opens = t.opens; ends = t.ends; first = x; second = y })
+node_is i a f t x y z ea ef et ex ey ez p d e =
     let o = d.op in
     let g : f ≡ flow_of (table.row o).flow = ef ∙ ap (λ (j : Instr). j.row.flow) e in
     let x₁ : x ≡ first_of (flow_of (table.row o).flow) (p + table.size o) d.a =
     ex ∙ rw (g, e) (first_same o (table.row o).flow (p + table.size o) d.a refl) in
     let y₁ : y ≡ second_of (flow_of (table.row o).flow) (p + table.size o) d.a =
     ey ∙ rw (g, e) (second_same o (table.row o).flow (p + table.size o) d.a refl) in
-    let n₁ : i.row.need + i.row.per * i.a ≡ table.need o d.a = rw e (ap (λ (k : ℕ). (table.row o).need + k) (counted_same o d.a) ∙ sym (need_is o d.a)) in
-    let z₁ : z ≡ table.change o d.a = ez ∙ rw e (ap (λ (k : ℕ). (table.row o).change -ℤ pos k) (counted_same o d.a)) in
+    let n₁ : i.row.need + i.row.per * a ≡ table.need o d.a = ap (λ (k : ℕ). i.row.need + i.row.per * k) ea ∙ rw e (ap (λ (k : ℕ). (table.row o).need + k) (counted_same o d.a) ∙ sym (need_is o d.a)) in
+    let z₁ : z ≡ table.change o d.a = ez ∙ ap (λ (k : ℕ). i.row.change -ℤ pos (i.row.per * k)) ea ∙ rw e (ap (λ (k : ℕ). (table.row o).change -ℤ pos k) (counted_same o d.a)) in
     let t₁ : t ≡ flow_effect (flow_of (table.row o).flow) = et ∙ ap flow_effect g in
     all n₁ z₁ (ap (λ (u : FlowEffect). u.exact) t₁) (ap (λ (u : FlowEffect). u.drops) t₁) (ap (λ (u : FlowEffect). u.opens) t₁) (ap (λ (u : FlowEffect). u.ends) t₁) x₁ y₁
   where
@@ -136,31 +136,28 @@ node_is i f t x y z ef et ex ey ez p d e =
     all a b c f g h k m = rw (a, b, c, f, g, h, k, m)
 
 -- the numbers of an instruction are small
-pub record Limits (i : Instr) : Type 0 where
+pub record Limits (i : Instr) (a : ℕ) : Type 0 where
   pub need : i.row.need ≤ 3
   pub rises : rise i.row.change ≤ 1
   pub falls : fall i.row.change ≤ 2
-  pub counted : i.row.per * i.a < 65536
+  pub counted : i.row.per * a < 65536
 
 product_small : (k a : ℕ) → k ≤ 1 → a < 65536 → k * a < 65536
 product_small zero a h l = omega arith
 product_small (suc zero) a h l = omega arith
 product_small (suc (suc k)) a h l = omega arith
 
-pub limits : (i : Instr) → Drawn i → Limits i
-limits i w =
+pub limits : (i : Instr) → Drawn i → i.a < 65536 → (a : ℕ) → a ≡ i.a → Limits i a
+limits i w h a q =
     let o = w.1.op in
     let e = w.2.is in
     record {
       need = rw e (rows.need_small o);
       rises = rw e (rows.rise_small o);
       falls = rw e (rows.fall_small o);
-      counted = product_small i.row.per i.a (rw e (rows.per_small o)) w.2.small.a;
+      counted = product_small i.row.per a (rw e (rows.per_small o)) (omega arith);
     }
 
 pub kinds_back : (kinds : List ℕ) → kinds_of (map of_kind kinds) ≡ kinds
 kinds_back [] = refl
 kinds_back (k ∷ ks) = ap (λ (l : List ℕ). k ∷ l) (kinds_back ks)
-
-pub before_start : {n a : ℕ} → n < a → 0 ≡ n - a
-before_start h = omega arith

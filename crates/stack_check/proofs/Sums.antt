@@ -29,9 +29,6 @@ module _ (h : ℕ) (z : ℤ) (f : SFits w64 z) (C : Changeable h z) where
   pub natural : T (non_neg (to_z w64 (of_z w64 sum))) × Fits w64 (nat_abs (to_z w64 (of_z w64 sum)))
   natural = subst (λ (y : ℤ). T (non_neg y) × Fits w64 (nat_abs y)) (sym back) (tt, record { fits = omega (arith, C.after) })
 
-  pub sum_natural : nat_abs (to_z w64 (of_z w64 sum)) ≡ added h z
-  sum_natural = ap nat_abs back
-
 -- a row's change, less the operands that are counted
 small : (z : ℤ) (n : ℕ) → rise z < n → fall z < n → mag z < n
 small (pos k) n r f = r

@@ -4,6 +4,7 @@ use Rattle.definition.specs.Image.{Chunk, Image, chunk_at}
 use Rattle.definition.specs.StackCheck.{ChunkPasses}
 use Rattle.definition.specs.CheckAnswer.{Checked, pass, fails, Wrong, Decides}
 use Rattle.chunk.specs.Fault.{kinds_of}
+use Rattle.image.specs.declared.loaded.Loaded.{Loaded}
 use Rattle.stack_check.specs.declared.Reason.{Reason}
 use Rattle.stack_check.specs.declared.Reason.TheVariants.{Instruction, Loop, Constant, NoHeights}
 use Rattle.stack_check.specs.declared.ChunkFault.{ChunkFault}
@@ -38,12 +39,6 @@ ChunkIs k (Err f) = Wrong k (reason_number f.reason) f.at
 abbrev pub ChunkDecided : List ℕ → List ℕ → ChunkAnswer → Type 0
 ChunkDecided code kinds r = (k : Chunk) → k.code ≡ code → kinds_of k.constants ≡ kinds → ChunkIs k r
 
--- the work slices are long enough for a code
-pub record CheckRoomy (size : ℕ) (hs ds ts : List ℕ) : Type 0 where
-  pub heights : size ≤ length hs
-  pub depths : length hs ≤ length ds
-  pub todo : length hs ≤ length ts
-
 abbrev pub cut : ℕ → ℕ → List ℕ → List ℕ
 cut from to l = take (to - from) (drop from l)
 
@@ -57,33 +52,35 @@ pub record ChunkHeld (bytes kinds table : List ℕ) (c : ℕ) (k : Chunk) : Type
   pub code_within : get_or table (4 * c + 7) 0 ≤ length bytes
   pub code_is : cut (get_or table (4 * c + 3) 0) (get_or table (4 * c + 7) 0) bytes ≡ k.code
 
--- some chunk lies at row c, and the work slices are long enough for it
-abbrev pub RowLent : List ℕ → List ℕ → List ℕ → ℕ → List ℕ → List ℕ → List ℕ → Type 0
-RowLent bytes kinds table c hs ds ts = (k : Chunk) × ChunkHeld bytes kinds table c k × CheckRoomy (length k.code) hs ds ts
+-- some chunk lies at row c, with a code no longer than this
+abbrev pub RowLent : Loaded → ℕ → ℕ → Type 0
+RowLent m c room = (k : Chunk) × ChunkHeld m.bytes.now m.kinds.now m.table.now c k × (length k.code ≤ room)
 
 -- the answer for every chunk that lies at row c
-abbrev pub RowDecided : List ℕ → List ℕ → List ℕ → ℕ → ChunkAnswer → Type 0
-RowDecided bytes kinds table c r = (k : Chunk) → ChunkHeld bytes kinds table c k → ChunkIs k r
+abbrev pub RowDecided : Loaded → ℕ → ChunkAnswer → Type 0
+RowDecided m c r = (k : Chunk) → ChunkHeld m.bytes.now m.kinds.now m.table.now c k → ChunkIs k r
 
 -- an image as it lies in the lent slices
 pub record ImageHeld (bytes kinds table : List ℕ) (chunks : ℕ) (im : Image) : Type 0 where
   pub count : chunks ≡ length im.chunks
   pub held : (c : ℕ) → c < length im.chunks → ChunkHeld bytes kinds table c (chunk_at im c)
 
--- the work slices are long enough for the code of each chunk
-pub record ImageRoomy (im : Image) (hs ds ts : List ℕ) : Type 0 where
-  pub heights : (c : ℕ) → c < length im.chunks → length (chunk_at im c).code ≤ length hs
-  pub depths : length hs ≤ length ds
-  pub todo : length hs ≤ length ts
+-- this image lies there
+abbrev pub Holds : Loaded → Image → Type 0
+Holds m im = ImageHeld m.bytes.now m.kinds.now m.table.now m.counts.chunks im
 
--- some image lies there, and the work slices are long enough for it: what `load` gives, whose images have at most 4,096 bytes of code a chunk
-abbrev pub Lent : List ℕ → List ℕ → List ℕ → ℕ → List ℕ → List ℕ → List ℕ → Type 0
-Lent bytes kinds table chunks hs ds ts = (im : Image) × ImageHeld bytes kinds table chunks im × ImageRoomy im hs ds ts
+-- no chunk's code is longer than this
+abbrev pub ImageRoomy : Image → ℕ → Type 0
+ImageRoomy im room = (c : ℕ) → c < length im.chunks → length (chunk_at im c).code ≤ room
+
+-- some image lies there, and there is room for it: what `load` gives, whose images have at most 4,096 bytes of code a chunk
+abbrev pub Lent : Loaded → ℕ → Type 0
+Lent m room = (im : Image) × Holds m im × ImageRoomy im room
 
 -- exactly the definition's answer, for every image that lies there
-abbrev pub Decided : List ℕ → List ℕ → List ℕ → ℕ → CheckAnswer → Type 0
-Decided bytes kinds table chunks r = (im : Image) → ImageHeld bytes kinds table chunks im → Decides im (checked_of r)
+abbrev pub Decided : Loaded → CheckAnswer → Type 0
+Decided m r = (im : Image) → Holds m im → Decides im (checked_of r)
 
 -- the chunks below n pass, of every image that lies there
-abbrev pub PassBelow : List ℕ → List ℕ → List ℕ → ℕ → ℕ → Type 0
-PassBelow bytes kinds table chunks n = (im : Image) → ImageHeld bytes kinds table chunks im → (c : ℕ) → c < n → ChunkPasses (chunk_at im c)
+abbrev pub PassBelow : Loaded → ℕ → Type 0
+PassBelow m n = (im : Image) → Holds m im → (c : ℕ) → c < n → ChunkPasses (chunk_at im c)

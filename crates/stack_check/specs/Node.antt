@@ -5,12 +5,13 @@ use Rattle.definition.specs.Image.{Constant, Chunk}
 use Rattle.definition.specs.Table as table
 use Rattle.definition.specs.Decode as definition
 use Rattle.chunk.specs.Table.{flow_of}
-use Rattle.chunk.specs.Decode.{instr_of, decoded_at, Small}
+use Rattle.chunk.specs.Decode.{instr_of, decoded_at}
 use Rattle.chunk.specs.declared.Flow.{Flow}
 use Rattle.chunk.specs.declared.Flow.TheVariants.{Straight, Opens, Closes, Forward, Backward, Forks, Ends, MayEnd}
 use Rattle.chunk.specs.declared.Instr.{Instr}
 use Rattle.stack_check.specs.declared.FlowEffect.{FlowEffect}
 use Rattle.stack_check.specs.declared.Node.{Node}
+use Rattle.stack_check.specs.declared.ChunkCode.{ChunkCode}
 
 abbrev effect : Bool → ℕ → ℕ → Bool → FlowEffect
 effect e d o n = record { exact = e; drops = d; opens = o; ends = n }
@@ -72,7 +73,6 @@ node_at c p = node_of p (definition.decode c.code p)
 -- the code's i is the definition's d at p, and the cursor behind it is far from the greatest offset
 pub record Taken (i : Instr) (p : ℕ) (d : definition.Instr) : Type 0 where
   pub is : i ≡ instr_of p d
-  pub small : Small i
   pub room : i.next.at < 9223372036854775808 + 65536
 
 abbrev pub NodeIs : Instr → Node → Type 0
@@ -89,7 +89,10 @@ of_kind k = record { kind = k; payload = 0 }
 abbrev pub chunk_of : List ℕ → List ℕ → Chunk
 chunk_of code kinds = record { arity = 0; name = 0; constants = map of_kind kinds; code = code }
 
+-- the same of the two slices
+abbrev pub chunk_in : ChunkCode → Chunk
+chunk_in c = chunk_of c.code.now c.kinds.now
+
 -- at p of the chunk stands the whole instruction i
 pub record Here (c : Chunk) (p : ℕ) (i : Instr) : Type 0 where
   pub decoded : decoded_at c.code p ≡ Ok i
-  pub small : Small i

@@ -3,14 +3,14 @@
 
 ghost use Rattle.std.specs.Prelude.{◌≡◌, ℕ, ◌+◌, ◌-◌, ◌^◌, ◌≤◌, ◌<◌, length};
 ghost use Rattle.definition.specs.Decode.{fault};
-ghost use Rattle.stack_check.specs.Node.{flow_effect, first_of, second_of, Drawn, NodeIs, Here, chunk_of};
+ghost use Rattle.stack_check.specs.Node.{flow_effect, first_of, second_of, Drawn, NodeIs, Here, chunk_in};
 ghost use Rattle.stack_check.specs.Flat.{Goes, Changeable, height_after};
-ghost use Rattle.stack_check.specs.Progress.{Progress, Coming, Visited, Spread, Handling, Tested, Listed};
-ghost use Rattle.stack_check.specs.Answer.{reason_number, ChunkIs, ChunkDecided, RowLent, RowDecided, CheckRoomy, Lent, Decided};
-ghost use Rattle.clearing.specs.Zero.{AllZero};
+ghost use Rattle.stack_check.specs.Progress.{Coming, Tested, Listed};
+ghost use Rattle.stack_check.specs.Answer.{reason_number, ChunkIs, ChunkDecided, RowLent, RowDecided, Lent, Decided};
 
 use chunk::{CodeCursor, Flow, Instr, StaticFault};
 use clearing::clear;
+use image::Loaded;
 
 // Why a chunk does not pass: what `chunk` can see of one instruction, or that no heights exist.
 #[derive(Clone, Copy)]
@@ -32,6 +32,20 @@ impl From<StaticFault> for Reason {
             StaticFault::Instruction => Reason::Instruction,
             StaticFault::Loop => Reason::Loop,
             StaticFault::Constant => Reason::Constant,
+        }
+    }
+}
+
+// Document 01's number of a fault.
+impl From<Reason> for usize {
+    ghost from_gives = { λ reason number. number ≡ reason_number reason };
+
+    fn from(reason: Reason) -> usize {
+        match reason {
+            Reason::Instruction => 10,
+            Reason::Loop => 11,
+            Reason::Constant => 12,
+            Reason::NoHeights => 13,
         }
     }
 }
@@ -132,32 +146,20 @@ fn back(next: CodeCursor, a: usize) -> usize
     }
 }
 
-fn forward(next: CodeCursor, a: usize) -> usize
-    requires { (next.at < 2 ^ 63 + 65536) × (a < 65536) }
-    ensures { result ≡ next.at + a }
+// Where control goes from an instruction whose first operand is `a`: two offsets, the same but for JumpIfFalse.
+fn targets(flow: Flow, next: CodeCursor, a: u16) -> (usize, usize)
+    requires { next.at < 2 ^ 63 + 65536 }
+    ensures { (result.0 ≡ first_of flow next.at a) × (result.1 ≡ second_of flow next.at a) }
 {
-    let c = next.jump_forward(a);
-    c.at
-}
-
-fn first_of(flow: Flow, next: CodeCursor, a: usize) -> usize
-    requires { (next.at < 2 ^ 63 + 65536) × (a < 65536) }
-    ensures { result ≡ first_of flow next.at a }
-{
+    let further = next.jump_forward(usize::from(a)).at;
     match flow {
-        Flow::Forward => forward(next, a),
-        Flow::Backward => back(next, a),
-        _ => next.at,
-    }
-}
-
-fn second_of(flow: Flow, next: CodeCursor, a: usize) -> usize
-    requires { (next.at < 2 ^ 63 + 65536) × (a < 65536) }
-    ensures { result ≡ second_of flow next.at a }
-{
-    match flow {
-        Flow::Forks => forward(next, a),
-        _ => first_of(flow, next, a),
+        Flow::Forward => (further, further),
+        Flow::Backward => {
+            let to = back(next, usize::from(a));
+            (to, to)
+        }
+        Flow::Forks => (next.at, further),
+        _ => (next.at, next.at),
     }
 }
 
@@ -167,11 +169,9 @@ fn node_of(i: Instr) -> Node
     ensures { NodeIs i result }
 {
     let row = i.row;
-    let next = i.next;
-    let a = i.a;
-    let flow = row.flow;
-    let t = flow_effect(flow);
-    let counted = row.per * a;
+    let t = flow_effect(row.flow);
+    let counted = row.per * usize::from(i.a);
+    let (first, second) = targets(row.flow, i.next, i.a);
     Node {
         need: row.need + counted,
         change: row.change - counted as isize,
@@ -179,8 +179,8 @@ fn node_of(i: Instr) -> Node
         drops: t.drops,
         opens: t.opens,
         ends: t.ends,
-        first: first_of(flow, next, a),
-        second: second_of(flow, next, a),
+        first,
+        second,
     }
 }
 
@@ -205,30 +205,46 @@ fn meets(node: Node, h: usize, d: usize) -> bool
     if node.exact { h == node.need } else { true }
 }
 
-// What the search works with: at each offset that control came to the height and one more, and the depth; and the list of these offsets.
+// The code of a chunk and the kinds of its constants: all of it that the check looks at.
+#[derive(Clone, Copy)]
+pub struct ChunkCode<'a> {
+    pub code: &'a [u8],
+    pub kinds: &'a [u8],
+}
+
+// What the search works with: at each offset that control came to the height and one more, and the depth; and the list of these offsets. Three slices
+// side by side, as the C interface lends them; so 0, and no `Option`, says that control has not come yet. They are room for a code as long as `heights`.
 #[derive(Drop)]
-struct Work<'a> {
-    heights: &'a mut [usize],
-    depths: &'a mut [usize],
-    todo: &'a mut [usize],
+pub struct Work<'a> {
+    pub heights: &'a mut [usize],
+    pub depths: &'a mut [usize],
+    pub todo: &'a mut [usize],
+    ghost long_depths: { length heights.now ≤ length depths.now },
+    ghost long_todo: { length heights.now ≤ length todo.now },
+}
+
+// Which fault the instruction at `at` has, where it has one. (The last arm is not met.)
+fn fault_reason(chunk: ChunkCode, at: usize) -> Reason
+    requires { fault (chunk_in chunk) at ≡ 0 → ⊥ }
+    ensures { reason_number result ≡ fault (chunk_in chunk.entry) at }
+{
+    match chunk::inspect(chunk.code, chunk.kinds, at) {
+        Err(f) => Reason::from(f),
+        Ok(_) => Reason::NoHeights,
+    }
 }
 
 impl<'a> Work<'a> {
+    ghost use Rattle.stack_check.specs.Slices.{SameSlices, Searching, VisitedIn, SpreadIn, HandlingIn, Cleared};
+
     // Control comes to `to` with height h and depth d.
-    fn visit(
-        &mut self,
-        code: &[u8],
-        kinds: &[u8],
-        s: Search,
-        to: usize,
-        h: usize,
-        d: usize,
-    ) -> Search
-        requires { Progress (chunk_of code.now kinds.now) self.old.heights.now self.old.depths.now self.old.todo.now s × Coming (chunk_of code.now kinds.now) s.tail to h d }
-        ensures { Visited (chunk_of code.now kinds.now) self.old.heights.now self.old.depths.now self.old.todo.now self.new.heights.now self.new.depths.now self.new.todo.now s result to h d }
+    fn visit(&mut self, chunk: ChunkCode, s: Search, to: usize, h: usize, d: usize) -> Search
+        requires { Searching chunk self.old s × Coming (chunk_in chunk) s.tail to h d }
+        ensures visited { VisitedIn chunk.entry self.old self.new s result to h d }
+        ensures same { SameSlices self.old self.new }
     {
         let broken = Search { bad: true, ..s };
-        if code.len() <= to {
+        if chunk.code.len() <= to {
             if h == 0 {
                 return s;
             } else {
@@ -255,55 +271,50 @@ impl<'a> Work<'a> {
     }
 
     // Control comes to what comes after an instruction, with height h and depth d.
-    fn spread(
-        &mut self,
-        code: &[u8],
-        kinds: &[u8],
-        s: Search,
-        node: Node,
-        h: usize,
-        d: usize,
-    ) -> Search
-        requires { Progress (chunk_of code.now kinds.now) self.old.heights.now self.old.depths.now self.old.todo.now s × ((t : ℕ) → Goes node t → Coming (chunk_of code.now kinds.now) s.tail t h d) }
-        ensures { Spread (chunk_of code.now kinds.now) self.old.heights.now self.old.depths.now self.old.todo.now self.new.heights.now self.new.depths.now self.new.todo.now s result node h d }
+    fn spread(&mut self, chunk: ChunkCode, s: Search, node: Node, h: usize, d: usize) -> Search
+        requires { Searching chunk self.old s × ((t : ℕ) → Goes node t → Coming (chunk_in chunk) s.tail t h d) }
+        ensures spread { SpreadIn chunk.entry self.old self.new s result node h d }
+        ensures same { SameSlices self.old self.new }
     {
         if node.ends {
             return s;
         }
         let first = node.first;
         let second = node.second;
-        let s1 = self.visit(code, kinds, s, first, h, d);
-        self.visit(code, kinds, s1, second, h, d)
+        let s1 = self.visit(chunk, s, first, h, d);
+        self.visit(chunk, s1, second, h, d)
     }
 
     // Handles the instruction at `at`, which has no fault.
-    fn handle(&mut self, code: &[u8], kinds: &[u8], s: Search, at: usize, i: Instr) -> Search
-        requires { Progress (chunk_of code.now kinds.now) self.old.heights.now self.old.depths.now self.old.todo.now s × Listed (chunk_of code.now kinds.now) self.old.heights.now at × (fault (chunk_of code.now kinds.now) at ≡ 0) × Here (chunk_of code.now kinds.now) at i }
-        ensures { Handling (chunk_of code.now kinds.now) self.old.heights.now self.old.depths.now self.old.todo.now self.new.heights.now self.new.depths.now self.new.todo.now s result at }
+    fn handle(&mut self, chunk: ChunkCode, s: Search, at: usize, i: Instr) -> Search
+        requires { Searching chunk self.old s × Listed (chunk_in chunk) self.old.heights.now at × (fault (chunk_in chunk) at ≡ 0) × Here (chunk_in chunk) at i }
+        ensures handled { HandlingIn chunk.entry self.old self.new s result at }
+        ensures same { SameSlices self.old self.new }
     {
         let node = node_of(i);
         let h = self.heights[at] - 1;
         let d = self.depths[at];
         if !meets(node, h, d) {
             let broken = Search { bad: true, ..s };
-            return self.spread(code, kinds, broken, node, 0, 0);
+            return self.spread(chunk, broken, node, 0, 0);
         }
         let h2 = height_after(node, h);
         let d2 = d - node.drops + node.opens;
-        self.spread(code, kinds, s, node, h2, d2)
+        self.spread(chunk, s, node, h2, d2)
     }
 
     // Handles the next offset that waits.
-    fn step(&mut self, code: &[u8], kinds: &[u8], s: Search) -> Search
-        requires { Progress (chunk_of code.now kinds.now) self.old.heights.now self.old.depths.now self.old.todo.now s × (s.head < s.tail) }
-        ensures progress { Progress (chunk_of code.now kinds.now) self.new.heights.now self.new.depths.now self.new.todo.now result }
+    fn step(&mut self, chunk: ChunkCode, s: Search) -> Search
+        requires { Searching chunk self.old s × (s.head < s.tail) }
+        ensures progress { Searching chunk.entry self.new result }
         ensures onward { result.head ≡ s.head + 1 }
         ensures long { length self.new.heights.now ≡ length self.old.heights.now }
+        ensures same { SameSlices self.old self.new }
     {
         let head = s.head;
         let at = self.todo[head];
         let low = s.low;
-        match chunk::inspect(code, kinds, at) {
+        match chunk::inspect(chunk.code, chunk.kinds, at) {
             Err(_) => {
                 if at < low {
                     Search {
@@ -319,7 +330,7 @@ impl<'a> Work<'a> {
                 }
             }
             Ok(i) => {
-                let r = self.handle(code, kinds, s, at, i);
+                let r = self.handle(chunk, s, at, i);
                 Search {
                     head: head + 1,
                     ..r
@@ -329,159 +340,114 @@ impl<'a> Work<'a> {
     }
 
     // Handles one offset after another, until none waits.
-    fn search(&mut self, code: &[u8], kinds: &[u8], begun: Search) -> Search
-        requires { Progress (chunk_of code.now kinds.now) self.old.heights.now self.old.depths.now self.old.todo.now begun }
-        ensures progress { Progress (chunk_of code.now kinds.now) self.new.heights.now self.new.depths.now self.new.todo.now result }
+    fn search(&mut self, chunk: ChunkCode, begun: Search) -> Search
+        requires { Searching chunk self.old begun }
+        ensures progress { Searching chunk.entry self.new result }
         ensures ended { result.tail ≤ result.head }
+        ensures long { length self.new.heights.now ≡ length self.old.heights.now }
+        ensures same { SameSlices self.old self.new }
     {
         let mut s = begun;
+        // No `for`: how many offsets will wait is known only when none does.
         while s.head < s.tail {
-            s = self.step(code, kinds, s);
+            s = self.step(chunk, s);
         }
         s
     }
-}
 
-// Which fault the instruction at `at` has, where it has one. (The last arm is not met.)
-fn fault_reason(code: &[u8], kinds: &[u8], at: usize) -> Reason
-    requires { fault (chunk_of code.now kinds.now) at ≡ 0 → ⊥ }
-    ensures { reason_number result ≡ fault (chunk_of code.now kinds.now) at }
-{
-    match chunk::inspect(code, kinds, at) {
-        Err(f) => Reason::from(f),
-        Ok(_) => Reason::NoHeights,
-    }
-}
-
-// The answer for one chunk. The work slices hold what the search left.
-fn judge(
-    code: &[u8],
-    kinds: &[u8],
-    heights: &mut [usize],
-    depths: &mut [usize],
-    todo: &mut [usize],
-) -> Result<(), ChunkFault>
-    requires { CheckRoomy (length code.now) heights.old depths.old todo.old }
-    ensures { ChunkIs (chunk_of code.now kinds.now) result }
-{
-    let n = code.len();
-    if n == 0 {
-        return Ok(());
-    }
-    clear(heights);
-    heights[0] = 1;
-    depths[0] = 0;
-    todo[0] = 0;
-    let begun = Search {
-        head: 0,
-        tail: 1,
-        low: n,
-        bad: false,
-    };
-    let mut work = Work {
-        heights,
-        depths,
-        todo,
-    };
-    let s = work.search(code, kinds, begun);
-    let low = s.low;
-    if low < n {
-        let reason = fault_reason(code, kinds, low);
-        return Err(ChunkFault { reason, at: low });
-    }
-    if s.bad { Err(NO_HEIGHTS) } else { Ok(()) }
-}
-
-// The stack check of one chunk. The work slices are long enough for its code; all of them is 0 afterwards.
-pub fn check_chunk(
-    code: &[u8],
-    kinds: &[u8],
-    heights: &mut [usize],
-    depths: &mut [usize],
-    todo: &mut [usize],
-) -> Result<(), ChunkFault>
-    requires { CheckRoomy (length code.now) heights.old depths.old todo.old }
-    ensures answer { ChunkDecided code.now kinds.now result }
-    ensures cleared { AllZero heights.new × AllZero depths.new × AllZero todo.new }
-{
-    let answer = judge(code, kinds, heights, depths, todo);
-    clear(heights);
-    clear(depths);
-    clear(todo);
-    answer
-}
-
-// The answer for chunk c of the image that lies in the slices.
-fn judge_row(
-    bytes: &[u8],
-    kinds: &[u8],
-    table: &[usize],
-    c: usize,
-    heights: &mut [usize],
-    depths: &mut [usize],
-    todo: &mut [usize],
-) -> Result<(), ChunkFault>
-    requires { RowLent bytes.now kinds.now table.now c heights.old depths.old todo.old }
-    ensures { RowDecided bytes.now kinds.now table.now c result }
-{
-    let row = 4 * c;
-    let from = table[row + 3];
-    let to = table[row + 7];
-    let kinds_from = table[row + 2];
-    let kinds_to = table[row + 6];
-    judge(
-        &bytes[from..to],
-        &kinds[kinds_from..kinds_to],
-        heights,
-        depths,
-        todo,
-    )
-}
-
-// The answer for the lowest chunk that does not pass, if there is one.
-fn judge_all(
-    bytes: &[u8],
-    kinds: &[u8],
-    table: &[usize],
-    chunks: usize,
-    heights: &mut [usize],
-    depths: &mut [usize],
-    todo: &mut [usize],
-) -> Result<(), ImageFault>
-    requires { Lent bytes.now kinds.now table.now chunks heights.old depths.old todo.old }
-    ensures { Decided bytes.now kinds.now table.now chunks result }
-{
-    for c in 0..chunks {
-        if let Err(fault) = judge_row(bytes, kinds, table, c, heights, depths, todo) {
-            return Err(ImageFault {
-                reason: fault.reason,
-                chunk: c,
-                at: fault.at,
-            });
+    // The answer for one chunk. The work slices hold what the search left.
+    fn judge(&mut self, chunk: ChunkCode) -> Result<(), ChunkFault>
+        requires { length chunk.code.now ≤ length self.old.heights.now }
+        ensures answer { ChunkIs (chunk_in chunk.entry) result }
+        ensures long { length self.new.heights.now ≡ length self.old.heights.now }
+        ensures same { SameSlices self.old self.new }
+    {
+        let n = chunk.code.len();
+        if n == 0 {
+            return Ok(());
         }
+        clear(self.heights);
+        self.heights[0] = 1;
+        self.depths[0] = 0;
+        self.todo[0] = 0;
+        let begun = Search {
+            head: 0,
+            tail: 1,
+            low: n,
+            bad: false,
+        };
+        let s = self.search(chunk, begun);
+        let low = s.low;
+        if low < n {
+            let reason = fault_reason(chunk, low);
+            return Err(ChunkFault { reason, at: low });
+        }
+        if s.bad { Err(NO_HEIGHTS) } else { Ok(()) }
     }
-    Ok(())
-}
 
-// The stack check of an image that `load` left in the slices: `bytes` with the code, `kinds` of all constants, and `table`, four numbers for each
-// of the chunks and four more. The answer is exactly the definition's. The work slices are long enough for the longest code; all of them is 0
-// afterwards.
-pub fn check_image(
-    bytes: &[u8],
-    kinds: &[u8],
-    table: &[usize],
-    chunks: usize,
-    heights: &mut [usize],
-    depths: &mut [usize],
-    todo: &mut [usize],
-) -> Result<(), ImageFault>
-    requires { Lent bytes.now kinds.now table.now chunks heights.old depths.old todo.old }
-    ensures answer { Decided bytes.now kinds.now table.now chunks result }
-    ensures cleared { AllZero heights.new × AllZero depths.new × AllZero todo.new }
-{
-    let answer = judge_all(bytes, kinds, table, chunks, heights, depths, todo);
-    clear(heights);
-    clear(depths);
-    clear(todo);
-    answer
+    // Back to zero, to the end of each slice.
+    fn clear(&mut self)
+        ensures cleared { Cleared self.new }
+        ensures same { SameSlices self.old self.new }
+    {
+        clear(self.heights);
+        clear(self.depths);
+        clear(self.todo);
+    }
+
+    // The stack check of one chunk. The work slices are long enough for its code; all of them is 0 afterwards.
+    pub fn check_chunk(&mut self, code: &[u8], kinds: &[u8]) -> Result<(), ChunkFault>
+        requires { length code.now ≤ length self.old.heights.now }
+        ensures answer { ChunkDecided code.now kinds.now result }
+        ensures cleared { Cleared self.new }
+        ensures same { SameSlices self.old self.new }
+    {
+        let answer = self.judge(ChunkCode { code, kinds });
+        self.clear();
+        answer
+    }
+
+    // The answer for chunk c of the image.
+    fn judge_row(&mut self, image: Loaded, c: usize) -> Result<(), ChunkFault>
+        requires { RowLent image c (length self.old.heights.now) }
+        ensures answer { RowDecided image.entry c result }
+        ensures long { length self.new.heights.now ≡ length self.old.heights.now }
+        ensures same { SameSlices self.old self.new }
+    {
+        let row = 4 * c;
+        let code = &image.bytes[image.table[row + 3]..image.table[row + 7]];
+        let kinds = &image.kinds[image.table[row + 2]..image.table[row + 6]];
+        self.judge(ChunkCode { code, kinds })
+    }
+
+    // The answer for the lowest chunk that does not pass, if there is one.
+    fn judge_all(&mut self, image: Loaded) -> Result<(), ImageFault>
+        requires { Lent image (length self.old.heights.now) }
+        ensures answer { Decided image.entry result }
+        ensures same { SameSlices self.old self.new }
+    {
+        for c in 0..image.counts.chunks {
+            if let Err(fault) = self.judge_row(image, c) {
+                return Err(ImageFault {
+                    reason: fault.reason,
+                    chunk: c,
+                    at: fault.at,
+                });
+            }
+        }
+        Ok(())
+    }
+
+    // The stack check of an image that `load` left in the slices. The answer is exactly the definition's. The work slices are long enough for the
+    // longest code; all of them is 0 afterwards.
+    pub fn check_image(&mut self, image: Loaded) -> Result<(), ImageFault>
+        requires { Lent image (length self.old.heights.now) }
+        ensures answer { Decided image.entry result }
+        ensures cleared { Cleared self.new }
+        ensures same { SameSlices self.old self.new }
+    {
+        let answer = self.judge_all(image);
+        self.clear();
+        answer
+    }
 }

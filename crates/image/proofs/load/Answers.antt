@@ -2,7 +2,8 @@
 -- image, by `same_load`.
 
 use Rattle.image.specs.Answer.{slices}
-use Rattle.image.proofs.Reading.{loads_short, short_bytes, short_ends, short_kinds, short_payloads, short_table, loads_long, loads_whole}
+use Rattle.image.proofs.Reading.{loads_short, short_bytes, short_ends, short_kinds, short_payloads, short_table, loads_long, loads_whole, loads_in}
+use Rattle.std.proofs.Common.{rules}
 use Rattle.image.proofs.Nested.{same_load}
 use Rattle.image.proofs.load.Goals as goal
 use Rattle.image.proofs.load.Goals.{
@@ -40,41 +41,14 @@ returns-then-image-gt-IMAGE_MOST c =
       room_table = c.if-table-lt-TABLE.false;
     }) c.if-image-gt-IMAGE_MOST.true
 
-pub load_roomy-requires : goal.load_roomy-requires
-load_roomy-requires c =
-    let if6 = c.if-image-gt-IMAGE_MOST in
-    let if5 = c.if-table-lt-TABLE in
-    let if4 = c.if-payloads-lt-PAYLOADS in
-    let if3 = c.if-kinds-lt-KINDS in
-    let if2 = c.if-ends-lt-ENDS in
-    let if1 = c.if-bytes-lt-BYTES in (
-      if6.false,
-      (record {
-        room_bytes = if1.false;
-        room_ends = if2.false;
-        room_kinds = if3.false;
-        room_payloads = if4.false;
-        room_table =
-            if5.false;
-      }),
-    )
-
 pub returns : goal.returns
 returns c =
-    let load_roomy = c.load_roomy in
-    let if6 = c.if-image-gt-IMAGE_MOST in
-    let if5 = c.if-table-lt-TABLE in
-    let if4 = c.if-payloads-lt-PAYLOADS in
-    let if3 = c.if-kinds-lt-KINDS in
-    let if2 = c.if-ends-lt-ENDS
-    in
-    let if1 = c.if-bytes-lt-BYTES
-    in
-    let args = c.args in
-    loads_whole args.image.now _ _ _ (record {
-      room_bytes = if1.false;
-      room_ends = if2.false;
-      room_kinds = if3.false;
-      room_payloads = if4.false;
-      room_table = if5.false;
-    }) if6.false (same_load args.image.now) load_roomy.ensures
+    let tables = c.load_roomy.new.tables in
+    loads_in {e = tables.ends.now} {k = tables.kinds.now} {p = tables.payloads.now} {t = tables.table.now} (search rules) (search rules) (search rules) (search rules)
+    (loads_whole c.args.image.now _ _ _ (record {
+      room_bytes = c.if-bytes-lt-BYTES.false;
+      room_ends = c.if-ends-lt-ENDS.false;
+      room_kinds = c.if-kinds-lt-KINDS.false;
+      room_payloads = c.if-payloads-lt-PAYLOADS.false;
+      room_table = c.if-table-lt-TABLE.false;
+    }) c.if-image-gt-IMAGE_MOST.false (same_load c.args.image.now) c.load_roomy.ensures.settled)

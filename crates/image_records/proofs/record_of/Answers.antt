@@ -1,36 +1,11 @@
--- At each tag `record_of` computes to that tag's rule, which the function called promises.
-use Rattle.std.proofs.Common.{arith}
-use borrow.Author.Tests.{ne_eqb}
-use Rattle.definition.specs.Lines.{record_of}
+-- A first byte of no record is out of order.
+use Rattle.std.proofs.Common.{sym}
+use Rattle.std.proofs.lemmas.Result.{err_from_is_err_and}
+use Rattle.image_records.proofs.Fields.{no_record}
 use Rattle.image_records.proofs.record_of.Goals as goal
 
-pub returns-in-1 : goal.returns-in-1
-unfolding record_of
-returns-in-1 c = rw c.in-1.is c.text_record.ensures
-
-pub returns-in-2 : goal.returns-in-2
-unfolding record_of
-returns-in-2 c = rw c.in-2.is c.chunk_record.ensures
-
-pub returns-in-3 : goal.returns-in-3
-unfolding record_of
-returns-in-3 c = rw c.in-3.is c.constant_record.ensures
-
-pub returns-in-4 : goal.returns-in-4
-unfolding record_of
-returns-in-4 c = rw c.in-4.is c.code_record.ensures
-
-pub returns-in-5 : goal.returns-in-5
-unfolding record_of
-returns-in-5 c = rw c.in-5.is c.end_record.ensures
-
-pub returns-in_default : goal.returns-in_default
-unfolding record_of
-returns-in_default c =
-    simp (
-      ne_eqb c.args.tag 1 (λ e. omega arith),
-      ne_eqb c.args.tag 2 (λ e. omega arith),
-      ne_eqb c.args.tag 3 (λ e. omega arith),
-      ne_eqb c.args.tag 4 (λ e. omega arith),
-      ne_eqb c.args.tag 5 (λ e. omega arith),
-    )
+pub returns-in_err-try_from : goal.returns-in_err-try_from
+returns-in_err-try_from c =
+    let err = err_from_is_err_and c.from_residual.result c.from_residual.ensures.1 in
+    let told = rw c.in_err-try_from.was at c.try_from.ensures in
+    rw (err.1, err.2, told.0) (sym (no_record _ _ _ told.1))

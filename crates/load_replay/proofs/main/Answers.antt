@@ -1,4 +1,4 @@
--- The list's buffer is as long as it is written.
+-- The room is as long as it is written.
 use Rattle.std.proofs.Common.{ℕ, sym}
 use lib.ListN.{length-replicate}
 use Rattle.load_replay.proofs.main.Goals as goal

@@ -8,5 +8,5 @@ use Rattle.number_casts.proofs.int_to_float_word.Goals as goal
 
 pub returns : goal.returns
 returns c =
-    ap (of_bits binary64) c.to_word.ensures.word ∙ of_bits-to_bits binary64 c.nearest_to_int.result (search rules) ∙ c.nearest_to_int.ensures
-    ∙ ap (of_int binary64) (to_z-of_z {w = w64} {z = c.cast_signed.result} (search rules) ∙ c.cast_signed.ensures)
+    ap (of_bits binary64) c.to_word.ensures.word ∙ of_bits-to_bits binary64 c.nearest_f64.result (search rules) ∙ c.nearest_f64.ensures
+    ∙ ap (of_int binary64) (c.from.ensures ∙ to_z-of_z {w = w64} {z = c.cast_signed.result} (search rules) ∙ c.cast_signed.ensures)

@@ -4,32 +4,12 @@ use native.Mathlib.Omega.{arith}
 use mathlib.Core.Path.{refl}
 use Prim.Native.Nat.{◌*◌}
 use Rattle.stack_check.proofs.Nodes.{node_is, limits}
-use Rattle.stack_check.proofs.Sums.{less_fits, less_back}
+use Rattle.stack_check.proofs.Sums.{less_back}
 use Rattle.stack_check.proofs.node_of.Goals as goal
-
-pub overflow_mul-counted : goal.overflow_mul-counted
-overflow_mul-counted c =
-    record { fits = omega (arith, (limits c.args.i c.requires).counted) }
-
-pub overflow_add-result : goal.overflow_add-result
-overflow_add-result c =
-    let l = limits c.args.i c.requires in
-    record { fits = omega (arith, l.need, l.counted) }
-
-pub overflow_cast-result : goal.overflow_cast-result
-overflow_cast-result c =
-    record { sfits = omega (arith, (limits c.args.i c.requires).counted) }
-
-pub overflow_sub-result : goal.overflow_sub-result
-overflow_sub-result c =
-    let i = c.args.i in
-    let l = limits i c.requires in
-    less_fits i.row.change (i.row.per * i.a) l.rises l.falls l.counted
 
 pub returns : goal.returns
 returns c =
-    let flow_effect = c.flow_effect-t in
     let i = c.args.i in
-    let l = limits i c.requires in
-    node_is i _ _ _ _ _ refl flow_effect.ensures c.first_of.ensures c.second_of.ensures
-    (less_back i.row.change (i.row.per * i.a) l.rises l.falls l.counted)
+    let l = limits i c.requires (omega (arith, c.well_formed)) _ c.from.ensures in
+    node_is i _ _ _ _ _ _ c.from.ensures refl c.flow_effect-t.ensures c.targets-first.ensures.0 c.targets-first.ensures.1
+    (less_back i.row.change (i.row.per * c.from.result) l.rises l.falls l.counted)

@@ -1,10 +1,9 @@
 -- Three ways: a fault below `low`, a fault that is not, and an instruction that `handle` takes. `Progress` holds after each, one offset on.
 
-use native.Mathlib.Omega.{arith}
 use mathlib.Core.Path.{refl}
 use Rattle.stack_check.proofs.Nodes.{kinds_back}
 use Rattle.stack_check.proofs.Found.{is_faulty, is_clean, is_here}
-use Rattle.stack_check.specs.Node.{chunk_of}
+use Rattle.stack_check.specs.Node.{chunk_in}
 use Rattle.stack_check.proofs.Theory.{step_lower, step_higher, step_handled}
 use Rattle.stack_check.proofs.Work.step.Goals as goal
 
@@ -13,7 +12,7 @@ returns-then-at-low-clause-progress c =
     let inspect = c.inspect in
     let args = c.args in
     let pre = c.requires in
-    step_lower pre.0 pre.1 _ refl (is_faulty (inspect.ensures (chunk_of args.code.now args.kinds.now) refl (kinds_back args.kinds.now)) c.in-Err.is)
+    step_lower pre.0 pre.1 _ refl (is_faulty (inspect.ensures (chunk_in args.chunk) refl (kinds_back args.chunk.kinds.now)) c.in-Err.is)
     c.if-at-low.true
 
 pub returns-else-at-low-clause-progress : goal.returns-else-at-low-clause-progress
@@ -21,7 +20,7 @@ returns-else-at-low-clause-progress c =
     let inspect = c.inspect in
     let args = c.args in
     let pre = c.requires in
-    step_higher pre.0 pre.1 _ refl (is_faulty (inspect.ensures (chunk_of args.code.now args.kinds.now) refl (kinds_back args.kinds.now)) c.in-Err.is)
+    step_higher pre.0 pre.1 _ refl (is_faulty (inspect.ensures (chunk_in args.chunk) refl (kinds_back args.chunk.kinds.now)) c.in-Err.is)
     c.if-at-low.false
 
 pub handle-r-requires : goal.handle-r-requires
@@ -31,25 +30,14 @@ handle-r-requires c =
     let pre = c.requires in (
       pre.0,
       pre.0.listed _ pre.1,
-      is_clean (inspect.ensures (chunk_of args.code.now args.kinds.now) refl (kinds_back args.kinds.now))
+      is_clean (inspect.ensures (chunk_in args.chunk) refl (kinds_back args.chunk.kinds.now))
           c.in-Ok.is,
-      is_here (inspect.ensures (chunk_of args.code.now args.kinds.now) refl (kinds_back args.kinds.now)) c.in-Ok.is,
+      is_here (inspect.ensures (chunk_in args.chunk) refl (kinds_back args.chunk.kinds.now)) c.in-Ok.is,
     )
-
-pub overflow_add-result-in-Ok : goal.overflow_add-result-in-Ok
-overflow_add-result-in-Ok c =
-    let good = c.well_formed
-    in
-    let pre = c.requires
-    in
-    omega (arith, pre.0.room, pre.0.order, pre.1, good)
 
 pub returns-in-Ok-clause-progress : goal.returns-in-Ok-clause-progress
 returns-in-Ok-clause-progress c =
     let inspect = c.inspect in
     let args = c.args in
-    step_handled c.requires.1 (is_clean (inspect.ensures (chunk_of args.code.now args.kinds.now) refl (kinds_back args.kinds.now)) c.in-Ok.is)
-    c.handle-r.ensures
-
-pub returns-in-Ok-clause-long : goal.returns-in-Ok-clause-long
-returns-in-Ok-clause-long c = c.handle-r.ensures.kept.long
+    step_handled c.requires.1 (is_clean (inspect.ensures (chunk_in args.chunk) refl (kinds_back args.chunk.kinds.now)) c.in-Ok.is)
+    c.handle-r.ensures.handled

@@ -11,4 +11,4 @@ abbrev pub decreases-measure : goal.decreases-measure
 decreases-measure l = (block_of l.v).nest
 
 abbrev pub invariant-loop-i : goal.invariant-loop-i
-invariant-loop-i l = (l.i ≤ l.b.count) × (l.left + length (codes l.nc (take l.i (drop l.b.start (trees_of (cells_of l.nc l.cells))))) ≡ l.initial.left)
+invariant-loop-i l = (l.i ≤ l.count) × (l.left + length (codes l.nc (take l.i (drop l.start (trees_of (cells_of l.nc l.cells))))) ≡ l.initial.left)

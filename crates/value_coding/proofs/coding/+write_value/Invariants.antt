@@ -8,4 +8,4 @@ abbrev pub decreases-write_value : goal.decreases-write_value
 decreases-write_value l = (block_of l.v).nest
 
 abbrev pub invariant-loop-i : goal.invariant-loop-i
-invariant-loop-i l = Wrote l.nc (trees_of (cells_of l.nc l.cells)) l.b.count l.b.start l.initial.out l.out l.initial.end l.end l.i
+invariant-loop-i l = Wrote l.nc (trees_of (cells_of l.nc l.cells)) l.count l.start l.initial.out l.out l.initial.end l.end l.i

@@ -1,2 +1,0 @@
--- One file: the marks of the answers' lines and the ends of images, by cases.
-pub mod Cases

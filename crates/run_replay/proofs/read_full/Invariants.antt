@@ -1,9 +1,0 @@
--- Each turn goes further within the list, or is the last.
-use Rattle.std.proofs.Common.{◌-◌, ◌≤◌, length}
-use Rattle.run_replay.proofs.read_full.Given as goal
-
-abbrev pub invariant-loop-at : goal.invariant-loop-at
-invariant-loop-at g l = l.at ≤ length l.list
-
-abbrev pub decreases-loop-at : goal.decreases-loop-at
-decreases-loop-at g l = length l.list - l.at
