@@ -6,7 +6,7 @@ ghost use Rattle.std.specs.Io.KnownBytes.{Consumes};
 ghost use Rattle.std.specs.Iterator.{at_most};
 ghost use Rattle.std.proofs.Math.Seq.{paste};
 ghost use Rattle.case_list.specs.Put.{fitting};
-ghost use Rattle.case_list.specs.Cases.{NextCase};
+ghost use Rattle.case_list.specs.Cases.{IsFirstAnswer, NextCase};
 ghost use Rattle.case_list.specs.Tallies.{counted, tally_text};
 
 use line_digits::line_end;
@@ -72,16 +72,17 @@ pub struct Cases<'a> {
 impl<'a> Cases<'a> {
     // Where the first line that begins with a mark begins, or the list's length.
     fn answer_at(&self) -> usize
-        ensures { result ≤ length self.now.list.now }
+        ensures within { result ≤ length self.now.list.now }
+        ensures first { IsFirstAnswer self.now result }
     {
-        match self.list {
-            [first, ..] if self.marks.contains(first) => 0,
-            _ => self
-                .list
-                .array_windows::<2>()
-                .position(|[before, first]| *before == b'\n' && self.marks.contains(first))
-                .map_or(self.list.len(), |i| i + 1),
+        let mut begins = true; // whether a line begins at i
+        for i in 0..self.list.len() {
+            if begins && self.marks.contains(&self.list[i]) {
+                return i;
+            }
+            begins = self.list[i] == b'\n';
         }
+        self.list.len()
     }
 }
 

@@ -51,8 +51,8 @@ fn input_line(read: &[u8], n: usize) -> Line
 fn main(rt: HostRuntime) {
     let mut read = [0u8; IMAGE_MOST + 1];
     let mut errors = rt.stderr();
-    if let Some(n) = read_input(&mut rt.stdin(), &mut errors, "checker", &mut read).bytes() {
+    if let Some(n) = read_input(&mut rt.stdin(), &mut errors, b"checker", &mut read).bytes() {
         let line = input_line(&read, n);
-        write_line(&mut rt.stdout(), &mut errors, "checker", line.as_str());
+        write_line(&mut rt.stdout(), &mut errors, b"checker", line.as_bytes());
     }
 }

@@ -1,7 +1,8 @@
 // Work memory: room in a slice that the caller lends, and back to zero to the end of each slice.
 #![tactic(auto)]
 
-ghost use Rattle.std.specs.Prelude.{◌≡◌, ◌≤◌, List, ℕ, length, get_or};
+ghost use Rattle.std.specs.Prelude.{◌≡◌, ◌≤◌, ℕ, length, get_or};
+ghost use Rattle.clearing.specs.Lent.{Lent};
 
 use std::marker::Model;
 
@@ -12,9 +13,9 @@ pub struct Room<'a, T, const N: usize> {
 }
 
 impl<'a, T, const N: usize> Model for Room<'a, T, N> {
-    ghost Value = { List T };
+    ghost Value = { Lent T };
 
-    ghost view = { λ room. room.items.now };
+    ghost view = { λ room. record { items = room.items.now; name = room.items.ghost_name } };
 
     ghost invariant = { λ room. N ≤ length room.items.now };
 }
@@ -22,7 +23,7 @@ impl<'a, T, const N: usize> Model for Room<'a, T, N> {
 impl<'a, T, const N: usize> Room<'a, T, N> {
     // All that was lent, to be read.
     pub fn all(&self) -> &[T]
-        ensures same { result.now ≡ self.now }
+        ensures same { result.now ≡ self.now.items }
         ensures long { N ≤ length result.now }
     {
         self.items

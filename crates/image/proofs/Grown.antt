@@ -4,6 +4,7 @@ use mathlib.Core.List.{List, [], ◌++◌, append-nil}
 use Prim.Native.Nat.{ℕ, ◌+◌, ◌≤◌}
 use lib.ListN.{length, take}
 use lib.Seq.{length-take-le, take_at, take-append-add}
+use Rattle.std.proofs.Common.{Ok}
 use Rattle.definition.proofs.Judged.{Told}
 use Rattle.image_records.specs.Records.{seen_of, said}
 use Rattle.image_records.specs.declared.State.{State}
@@ -14,7 +15,7 @@ use Rattle.image.specs.Answer.{Slices}
 use Rattle.image.specs.Reading.{Parts, new_bytes, grow, parts_of}
 
 -- a record that is not at fault keeps the limits
-pub fine : (s : State) (b : List ℕ) (r : Record) → Told (seen_of s) (length b) (said r b) → Fine s (length b) r
+pub fine : (s : State) (b : List ℕ) (r : Record) → Told (seen_of s) (length b) (said r b) → Fine s (length b) (Ok r)
 fine s b Text h = h.2
 fine s b (Opens arity name) h = h.3
 fine s b (Constant kind v) h = (h.4, h.5)
@@ -55,7 +56,7 @@ parts_all p q r s t u = parts_eq p (slices_eq q r s t u)
 
 pub grown :
     (r : Record) (s u : State) (n : ℕ) (b bytes out ends kinds payloads table ends' kinds' payloads' table' : List ℕ)
-    → s.bytes ≤ length bytes → b ≡ take n out → length b ≡ n → Accepted s r n ends kinds payloads table u ends' kinds' payloads' table'
+    → s.bytes ≤ length bytes → b ≡ take n out → length b ≡ n → Accepted s (Ok r) n ends kinds payloads table u ends' kinds' payloads' table'
     → parts_of u (record { bytes = take s.bytes bytes ++ out; ends = ends'; kinds = kinds'; payloads = payloads'; table = table' })
     ≡ grow (parts_of s (record { bytes = bytes; ends = ends; kinds = kinds; payloads = payloads; table = table })) (said r b)
 unfolding grow

@@ -1,5 +1,5 @@
 -- One line of an image, what is left of it, and the reading of all lines.
-use mathlib.Core.Path.{◌≡◌, refl, sym, ap, ◌∙◌}
+use mathlib.Core.Path.{◌≡◌, refl, sym, ap, ◌∙◌, subst}
 use mathlib.Core.Bool.{Bool, true, false, cond, ◌&&◌, ◌||◌}
 use mathlib.Core.List.{List, [], ◌∷◌, ◌++◌}
 use Prim.Native.Nat.{ℕ, suc, ◌+◌, ◌*◌, ◌-◌, ◌≤◌, ◌<◌}
@@ -163,7 +163,7 @@ module _ (image b : List ℕ) (p : Parts) (t : State) (k next left : ℕ) (last 
 
   settled :
       (r : Record) → last ≡ eqb left 0 → parts_of t m ≡ grow p (said r b)
-      → after_line (finish_of r t next left) image k m ≡ on_record p (k + 1) last (λ q. goes (split (drop next image)) q (k + 1)) (said r b)
+      → after_line (finish_of (Ok r) t next left (k + 1)) image k m ≡ on_record p (k + 1) last (λ q. goes (split (drop next image)) q (k + 1)) (said r b)
   settled Text e g = ap (λ q. goes (split (drop next image)) q (k + 1)) g
   settled (Opens arity name) e g = ap (λ q. goes (split (drop next image)) q (k + 1)) g
   settled (Constant kind v) e g = ap (λ q. goes (split (drop next image)) q (k + 1)) g
@@ -173,8 +173,8 @@ module _ (image b : List ℕ) (p : Parts) (t : State) (k next left : ℕ) (last 
 -- the bounds after a line
 module _ (s : State) (b : List ℕ) (at end size : ℕ) (sized : Sized s at) (digits : 2 * (length b + 1) ≡ end - at) (order : at ≤ end) (within : end <
     size) (small : size ≤ 65536) where
-  after_fits : (r : Record) (left : ℕ) → Fine s (length b) r → AfterLineFits (finish_of r (advance s (said r b)) (end + 1) left) at size
-  after_fits Text left h = (
+  after_fits : (r : Record) (left k : ℕ) → Fine s (length b) (Ok r) → AfterLineFits (finish_of (Ok r) (advance s (said r b)) (end + 1) left k) at size
+  after_fits Text left k h = (
     record {
       few_bytes = omega arith;
       few_constants = omega arith;
@@ -187,7 +187,7 @@ module _ (s : State) (b : List ℕ) (at end size : ℕ) (sized : Sized s at) (di
     omega arith,
     omega arith,
   )
-  after_fits (Opens arity name) left h = (
+  after_fits (Opens arity name) left k h = (
     record {
       few_bytes = omega arith;
       few_constants = omega arith;
@@ -201,7 +201,7 @@ module _ (s : State) (b : List ℕ) (at end size : ℕ) (sized : Sized s at) (di
     omega arith,
     omega arith,
   )
-  after_fits (Constant kind v) left h = (
+  after_fits (Constant kind v) left k h = (
     record {
       few_bytes = omega arith;
       few_constants = omega (arith, h.1);
@@ -215,7 +215,7 @@ module _ (s : State) (b : List ℕ) (at end size : ℕ) (sized : Sized s at) (di
     omega
         arith,
   )
-  after_fits Code left h = (
+  after_fits Code left k h = (
     record {
       few_bytes = omega arith;
       few_constants = omega arith;
@@ -228,12 +228,12 @@ module _ (s : State) (b : List ℕ) (at end size : ℕ) (sized : Sized s at) (di
     omega arith,
     omega arith,
   )
-  after_fits Ends left h =
+  after_fits Ends left k h =
       cond_elim (λ r. AfterLineFits r at size) (eqb left 0)
       (λ _. cond_elim (λ r. AfterLineFits r at size) (ltb s.named s.chunks) (λ _. omega (arith, sized.as_rows)) (λ _. tt))
       (λ _. tt)
 
-  state_within : (r : Record) → Fine s (length b) r → Within (advance s (said r b))
+  state_within : (r : Record) → Fine s (length b) (Ok r) → Within (advance s (said r b))
   state_within Text h = record {
     within_texts = omega arith;
     within_constants = omega (arith, sized.few_constants);
@@ -281,12 +281,12 @@ grows s b Code = record { more_texts = omega arith; more_constants = omega arith
 grows s b Ends = record { more_texts = omega arith; more_constants = omega arith; more_rows = omega arith }
 
 module _ (s t : State) (m m' : Slices) (g : Grows s t) (b : BehindState t m m') (w : Within t) where
-  after_left : (r : Record) (next left : ℕ) → AfterLineLeft (finish_of r t next left) s m m'
-  after_left Text next left = (g, b)
-  after_left (Opens arity name) next left = (g, b)
-  after_left (Constant kind v) next left = (g, b)
-  after_left Code next left = (g, b)
-  after_left Ends next left =
+  after_left : (r : Record) (next left k : ℕ) → AfterLineLeft (finish_of (Ok r) t next left k) s m m'
+  after_left Text next left k = (g, b)
+  after_left (Opens arity name) next left k = (g, b)
+  after_left (Constant kind v) next left k = (g, b)
+  after_left Code next left k = (g, b)
+  after_left Ends next left k =
       cond_elim (λ r. AfterLineLeft r s m m') (eqb left 0)
       (λ _. cond_elim (λ r. AfterLineLeft r s m m') (ltb t.named t.chunks) (λ _. (g, b)) (λ _. behind_most t m m' w b))
       (λ _. behind_most t m m' w b)
@@ -374,19 +374,19 @@ told_as s n x y e h = rw e h
 -- what a line says where it is not at fault
 pub fine_at :
     (image : List ℕ) (s : State) (tag at end : ℕ) (b : List ℕ) (r : Record) → line tag b ≡ line_of (take (end - at) (drop at image))
-    → said r b ≡ record_of (seen_of s) tag b → Fine s (length b) r
+    → said r b ≡ record_of (seen_of s) tag b → Fine s (length b) (Ok r)
 fine_at image s tag at end b r e q =
     let l = line_as (line tag b) (line_of (take (end - at) (drop at image))) e (line_bytes (take (end - at) (drop at image))) in
     fine s b r (told_as (seen_of s) (length b) (said r b) (record_of (seen_of s) tag b) q (told (seen_of s) b l.0 l.1 tag))
 
-fine_as : (s : State) (m n : ℕ) (r : Record) → m ≡ n → Fine s m r → Fine s n r
-fine_as s m n r e h = rw (← e) h
+fine_as : (s : State) (m n : ℕ) (r : Record) → m ≡ n → Fine s m (Ok r) → Fine s n (Ok r)
+fine_as s m n r e h = subst (λ (k : ℕ). Fine s k (Ok r)) e h
 
 pub fine_here :
     (image B out post : List ℕ) (s : State) (at end n tag : ℕ) (r : Record) → s.bytes ≤ length B → n ≤ length out
     → said r (take (s.bytes + n - s.bytes) (drop s.bytes (take s.bytes B ++ (out ++ post)))) ≡ record_of (seen_of s) tag (take (s.bytes + n - s.bytes)
     (drop s.bytes (take s.bytes B ++ (out ++ post))))
-    → line tag (take n out) ≡ line_of (take (end - at) (drop at image)) → Fine s n r
+    → line tag (take n out) ≡ line_of (take (end - at) (drop at image)) → Fine s n (Ok r)
 fine_here image B out post s at end n tag r small room item good =
     fine_as s (length (take n out)) n r (length-take-le n out room)
     (fine_at image s tag at end (take n out) r good (rw (fields_are B out post s.bytes n small room) at item))
@@ -398,8 +398,8 @@ module _
     (order : at ≤ end) (h : end < length image)
     (item : said r (take (s.bytes + n - s.bytes) (drop s.bytes (take s.bytes B ++ (out ++ post)))) ≡ record_of (seen_of s) tag (take (s.bytes +
     n - s.bytes) (drop s.bytes (take s.bytes B ++ (out ++ post)))))
-    (took : Accepted s r n e k p t s2 e' k' p' t')
-    (res : u ≡ finish_of r s2 (end + 1) (length image - (end + 1)))
+    (took : Accepted s (Ok r) n e k p t s2 e' k' p' t')
+    (res : u ≡ finish_of (Ok r) s2 (end + 1) (length image - (end + 1)) (ln + 1))
     (free : (j : ℕ) → at ≤ j → j < end → get_or image j 0 ≡ 10 → ⊥) (feed : get_or image end 0 ≡ 10)
     (good : line tag (take n out) ≡ line_of (take (end - at) (drop at image)))
     (digits : 2 * (n + 1) ≡ end - at)
@@ -426,7 +426,7 @@ module _
         ∙ ap (on_record (parts_of s before) (ln + 1) (eqb (length image - (end + 1)) 0) (λ q. goes (split (drop (end + 1) image)) q (ln + 1))) told_there
         ∙ sym (one_line image (parts_of s before) at end ln order free h feed ∙ rw (← good))
 
-    keeps : Fine s (length (take n out)) r
+    keeps : Fine s (length (take n out)) (Ok r)
     keeps = fine_at image s tag at end (take n out) r good told_there
 
     state : s2 ≡ advance s (said r (take n out))
@@ -439,12 +439,12 @@ module _
     line_taken =
         record {
           after = turned;
-          fits = rw (res, state) (after_fits s (take n out) at end (length image) sized two order h few r (length image - (end + 1)) keeps);
+          fits = rw (res, state) (after_fits s (take n out) at end (length image) sized two order h few r (length image - (end + 1)) (ln + 1) keeps);
           left =
               rw res
               (after_left s s2 before after (rw state (grows s (take n out) r))
               (record { same_bytes = kept; same_ends = took.behind_ends; same_kinds = took.behind_kinds; same_payloads = took.behind_payloads; same_table = took.behind_table })
-              (rw state (state_within s (take n out) at end (length image) sized two order h few r keeps)) r (end + 1) (length image - (end + 1)));
+              (rw state (state_within s (take n out) at end (length image) sized two order h few r keeps)) r (end + 1) (length image - (end + 1)) (ln + 1));
         }
 
 -- a line that is at fault

@@ -60,9 +60,9 @@ fn take_line(
         Ok(r) => r,
         Err(reason) => return Err(Refusal::at_line(reason, k + 1)),
     };
-    let t = tables.accept(s, r, line.size);
+    let t = tables.accept(s, Ok(r), line.size);
     let next = end + 1;
-    finish(r, t, next, image.len() - next)
+    finish(Ok(r), t, next, image.len() - next, k + 1)
 }
 
 // Reads all lines.

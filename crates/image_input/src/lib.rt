@@ -55,11 +55,12 @@ fn read_all<R: Read>(input: &mut R, buf: &mut [u8]) -> Reading
     Reading { at, end }
 }
 
-// Reads the input until `buf` is full or the input ends. Where a read fails, that is said on `errors`, behind the program's name.
+// Reads the input until `buf` is full or the input ends. Where a read fails, that is said on `errors`, behind the program's name,
+// whose bytes need be no text.
 pub fn read_input<R: Read, E: Write>(
     input: &mut R,
     errors: &mut E,
-    name: &str,
+    name: &[u8],
     buf: &mut [u8],
 ) -> Reading
     ensures over { Over (length buf.new) result.at result.end }
@@ -68,7 +69,8 @@ pub fn read_input<R: Read, E: Write>(
 {
     let reading = read_all(input, buf);
     if reading.bytes().is_none() {
-        let _ = writeln!(errors, "{name}: standard input cannot be read");
+        let _ = errors.write_all(name);
+        let _ = errors.write_all(b": standard input cannot be read\n");
     }
     reading
 }

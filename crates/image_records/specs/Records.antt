@@ -37,7 +37,7 @@ seen_of s = record { part = part_of s.part; texts = s.texts; chunks = s.chunks; 
 abbrev pub said : Record → List ℕ → FormatRecord
 said Text b = text b
 said (Opens arity name) b = opens arity name
-said (Constant kind v) b = constant (code_of kind) v
+said (Constant kind v) b = constant kind v
 said Code b = code b
 said Ends b = ends
 

@@ -64,12 +64,12 @@ pub struct State {
     pub rows: usize,
 }
 
-// What a line says.
+// What a line says. The kind of a constant is a number, and no `Kind`: whoever notes a record takes any.
 #[derive(Clone, Copy, Debug, PartialEq, Eq)]
 pub enum Record {
     Text,
     Opens { arity: usize, name: usize },
-    Constant { kind: Kind, payload: u64 },
+    Constant { kind: u8, payload: u64 },
     Code,
     Ends,
 }
@@ -215,7 +215,15 @@ fn constant_fields(b: &[u8], s: State) -> Result<Record, Reason>
     }
     let payload = number(&b[1..]);
     let ruled = is_allowed(s.texts, s.chunks, kind, payload);
-    judge(true, ruled, s.own < 256, Record::Constant { kind, payload })
+    judge(
+        true,
+        ruled,
+        s.own < 256,
+        Record::Constant {
+            kind: b[0],
+            payload,
+        },
+    )
 }
 
 #[tactic(auto, unfolding(definition::specs::Lines::constant_of))]

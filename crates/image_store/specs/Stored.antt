@@ -2,7 +2,7 @@
 use Rattle.std.specs.Prelude.{◌≡◌, cond, List, [], ◌∷◌, ◌++◌, ℕ, ◌+◌, ◌*◌, ◌≤◌, ◌<◌, length, take, drop, ltb, eqb, Result, Ok, Err}
 use Rattle.definition.specs.Lines.{text, opens, constant, code, ends, fault}
 use Rattle.definition.specs.Lines.{Record as FormatRecord}
-use Rattle.image_records.specs.Records.{said}
+use Rattle.image_records.specs.Records.{says}
 use Rattle.image_records.specs.declared.Reason.{Reason}
 use Rattle.image_records.specs.declared.Reason.TheVariants.{NoEnd, NoSuchChunk}
 use Rattle.image_records.specs.declared.Part.{Part}
@@ -138,14 +138,15 @@ new_row s ends = 0 ∷ 0 ∷ s.constants ∷ s.bytes ∷ []
 new_row s (fault n) = []
 
 -- what a line with n bytes of fields has kept that says this
-abbrev pub Fine : State → ℕ → Record → Type 0
-Fine s n Text = s.texts < 256
-Fine s n (Opens arity name) = s.chunks < 64
-Fine s n (Constant kind v) = (s.own < 256) × (0 < n)
-Fine s n Code = s.code + n ≤ 4096
-Fine s n Ends = Unit
+abbrev pub Fine : State → ℕ → Result Record Reason → Type 0
+Fine s n (Ok Text) = s.texts < 256
+Fine s n (Ok (Opens arity name)) = s.chunks < 64
+Fine s n (Ok (Constant kind v)) = (s.own < 256) × (0 < n)
+Fine s n (Ok Code) = s.code + n ≤ 4096
+Fine s n (Ok Ends) = Unit
+Fine s n (Err f) = Unit
 
-pub record CanAccept (s : State) (r : Record) (n : ℕ) : Type 0 where
+pub record CanAccept (s : State) (r : Result Record Reason) (n : ℕ) : Type 0 where
   pub few_bytes : s.bytes + n ≤ 32768
   pub few_constants : s.constants < 13107
   pub few_texts : s.texts ≤ 256
@@ -156,21 +157,22 @@ pub record CanAccept (s : State) (r : Record) (n : ℕ) : Type 0 where
   pub fine : Fine s n r
 
 -- the numbers and the slices after it, for any fields b, n in number
-pub record Accepted (s : State) (r : Record) (n : ℕ) (ends kinds payloads table : List ℕ) (t : State) (ends' kinds' payloads' table' : List ℕ) : Type 0 where
-  pub numbers : (b : List ℕ) → length b ≡ n → t ≡ advance s (said r b)
-  pub ended : (b : List ℕ) → length b ≡ n → take t.texts ends' ≡ take s.texts ends ++ new_ends s (said r b)
-  pub kinded : (b : List ℕ) → take t.constants kinds' ≡ take s.constants kinds ++ new_kinds (said r b)
-  pub paid : (b : List ℕ) → take t.constants payloads' ≡ take s.constants payloads ++ new_payloads (said r b)
-  pub rowed : (b : List ℕ) → take (4 * t.rows) table' ≡ take (4 * s.rows) table ++ new_row s (said r b)
+pub record Accepted (s : State) (r : Result Record Reason) (n : ℕ) (ends kinds payloads table : List ℕ) (t : State) (ends' kinds' payloads' table' : List ℕ) : Type 0 where
+  pub numbers : (b : List ℕ) → length b ≡ n → t ≡ advance s (says r b)
+  pub ended : (b : List ℕ) → length b ≡ n → take t.texts ends' ≡ take s.texts ends ++ new_ends s (says r b)
+  pub kinded : (b : List ℕ) → take t.constants kinds' ≡ take s.constants kinds ++ new_kinds (says r b)
+  pub paid : (b : List ℕ) → take t.constants payloads' ≡ take s.constants payloads ++ new_payloads (says r b)
+  pub rowed : (b : List ℕ) → take (4 * t.rows) table' ≡ take (4 * s.rows) table ++ new_row s (says r b)
   pub behind_ends : drop t.texts ends' ≡ drop t.texts ends
   pub behind_kinds : drop t.constants kinds' ≡ drop t.constants kinds
   pub behind_payloads : drop t.constants payloads' ≡ drop t.constants payloads
   pub behind_table : drop (4 * t.rows) table' ≡ drop (4 * t.rows) table
 
--- what comes after a line that says r: s are the numbers after it, `next` is where the next line begins, and `left` bytes follow
-abbrev pub finish_of : Record → State → ℕ → ℕ → Result Progress Refusal
-finish_of Text s next left = Ok (Next s next)
-finish_of (Opens arity name) s next left = Ok (Next s next)
-finish_of (Constant kind v) s next left = Ok (Next s next)
-finish_of Code s next left = Ok (Next s next)
-finish_of Ends s next left = cond (eqb left 0) (cond (ltb s.named s.chunks) (Ok (Ready s)) (Err (refusal_of NoSuchChunk 0))) (Err (refusal_of NoEnd 0))
+-- what comes after a line k that says r: s are the numbers after it, `next` is where the next line begins, and `left` bytes follow
+abbrev pub finish_of : Result Record Reason → State → ℕ → ℕ → ℕ → Result Progress Refusal
+finish_of (Ok Text) s next left k = Ok (Next s next)
+finish_of (Ok (Opens arity name)) s next left k = Ok (Next s next)
+finish_of (Ok (Constant kind v)) s next left k = Ok (Next s next)
+finish_of (Ok Code) s next left k = Ok (Next s next)
+finish_of (Ok Ends) s next left k = cond (eqb left 0) (cond (ltb s.named s.chunks) (Ok (Ready s)) (Err (refusal_of NoSuchChunk 0))) (Err (refusal_of NoEnd 0))
+finish_of (Err f) s next left k = Err (refusal_of f k)

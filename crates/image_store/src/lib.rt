@@ -3,7 +3,6 @@
 #![tactic(auto)]
 
 ghost use Rattle.std.specs.Prelude.{◌≡◌, [], ◌∷◌, ◌++◌, ◌+◌, ◌≤◌, length, take, drop};
-ghost use Rattle.kinds.specs.Codes.{code_of};
 ghost use Rattle.image_store.specs.Stored.{refusal_of, named_by, part_after, after_text, after_chunk, after_constant, after_code, after_end, CanAccept, Accepted, finish_of};
 
 use image_records::{Part, Reason, Record, State};
@@ -41,10 +40,10 @@ fn put_row(table: &mut [usize], at: usize, row: [usize; 4])
 }
 
 // The highest chunk number that a Function names, with one constant more.
-fn higher(named: u64, kind: Kind, v: u64) -> u64
-    ensures { result ≡ named_by named (code_of kind) v }
+fn higher(named: u64, kind: u8, v: u64) -> u64
+    ensures { result ≡ named_by named kind v }
 {
-    if kind == Kind::Function && named < v {
+    if kind == u8::from(Kind::Function) && named < v {
         v
     } else {
         named
@@ -88,9 +87,9 @@ fn after_chunk(s: State) -> State
     }
 }
 
-fn after_constant(s: State, kind: Kind, v: u64) -> State
+fn after_constant(s: State, kind: u8, v: u64) -> State
     requires { (s.own ≤ 256) × (s.constants ≤ 13107) }
-    ensures { result ≡ after_constant s (code_of kind) v }
+    ensures { result ≡ after_constant s kind v }
 {
     State {
         part: Part::InConstants,
@@ -141,51 +140,59 @@ pub struct Tables<'a> {
 impl<'a> Tables<'a> {
     ghost use Rattle.image_store.specs.Tables.{SameTables};
 
-    // Notes what a line with n bytes of fields says; the fields of a text and of code are in their place already.
-    pub fn accept(&mut self, s: State, r: Record, n: usize) -> State
+    // Notes what a line with n bytes of fields says, nothing of one at fault; the fields of a text and of code are in their place already.
+    pub fn accept(&mut self, s: State, r: Result<Record, Reason>, n: usize) -> State
         requires { CanAccept s r n }
         ensures accepted { Accepted s r n self.old.ends.now self.old.kinds.now self.old.payloads.now self.old.table.now result self.new.ends.now self.new.kinds.now self.new.payloads.now self.new.table.now }
         ensures same { SameTables self.old self.new }
     {
         match r {
-            Record::Text => {
+            Ok(Record::Text) => {
                 self.ends[s.texts] = s.bytes + n;
                 after_text(s, n)
             }
-            Record::Opens { arity, name } => {
+            Ok(Record::Opens { arity, name }) => {
                 put_row(self.table, 4 * s.rows, [arity, name, s.constants, s.bytes]);
                 after_chunk(s)
             }
-            Record::Constant { kind, payload } => {
-                self.kinds[s.constants] = u8::from(kind);
+            Ok(Record::Constant { kind, payload }) => {
+                self.kinds[s.constants] = kind;
                 self.payloads[s.constants] = payload;
                 after_constant(s, kind, payload)
             }
-            Record::Code => after_code(s, n),
-            Record::Ends => {
+            Ok(Record::Code) => after_code(s, n),
+            Ok(Record::Ends) => {
                 put_row(self.table, 4 * s.rows, [0, 0, s.constants, s.bytes]);
                 after_end(s)
             }
+            Err(_) => s,
         }
     }
 }
 
-// What comes after a line that says r.
-pub fn finish(r: Record, s: State, next: usize, left: usize) -> Result<Progress, Refusal>
-    ensures { result ≡ finish_of r s next left }
+// What comes after a line k that says r.
+pub fn finish(
+    r: Result<Record, Reason>,
+    s: State,
+    next: usize,
+    left: usize,
+    k: usize,
+) -> Result<Progress, Refusal>
+    ensures { result ≡ finish_of r s next left k }
 {
     match r {
-        Record::Text | Record::Opens { .. } | Record::Constant { .. } | Record::Code => {
+        Ok(Record::Text | Record::Opens { .. } | Record::Constant { .. } | Record::Code) => {
             Ok(Progress::Next { state: s, at: next })
         }
-        Record::Ends if left != 0 => Err(Refusal {
+        Ok(Record::Ends) if left != 0 => Err(Refusal {
             reason: Reason::NoEnd,
             line: 0,
         }),
-        Record::Ends if s.named < s.chunks as u64 => Ok(Progress::Ready(s)),
-        Record::Ends => Err(Refusal {
+        Ok(Record::Ends) if s.named < s.chunks as u64 => Ok(Progress::Ready(s)),
+        Ok(Record::Ends) => Err(Refusal {
             reason: Reason::NoSuchChunk,
             line: 0,
         }),
+        Err(reason) => Err(Refusal { reason, line: k }),
     }
 }

@@ -1,5 +1,6 @@
 // What the lines of the programs are made of: a number in decimal or padded with zeros to four digits, a place, bytes in hexadecimal, the line of a
-// refusal; and how a line is written. A piece is pushed behind those before it. Numbers and bytes look as in the crate `definition`, specs/Runner.antt.
+// refusal; and how a line is written. A piece is pushed behind those before it, or put into a buffer as a word. Numbers and bytes look as in the crate
+// `definition`, specs/Runner.antt.
 #![tactic(auto)]
 
 mod runs; // the line of an answer of `run`
@@ -9,11 +10,21 @@ ghost use Rattle.std.specs.Bool.{OnTrue};
 ghost use Rattle.std.specs.Io.KnownBytes.{Appends};
 ghost use Rattle.arrayvec.specs.ArrayString.{array_string_len};
 ghost use Rattle.definition.specs.Runner.{ascii, decimal, padded, hex_digit, hex, words};
+ghost use Rattle.line_output.specs.Puts.{Puts};
 
 use arrayvec::ArrayString;
 use itoa::Buffer;
 pub use runs::push_run;
 use std::io::Write;
+
+// Puts `word` into `out` at `at`, and answers where it ends. The programs push to a text; this is for a buffer of bytes.
+pub fn put(out: &mut [u8], at: usize, word: &[u8]) -> usize
+    requires { at + length word.now ≤ length out.old }
+    ensures { Puts out.old at word.now out.new result }
+{
+    out[at..at + word.len()].copy_from_slice(word);
+    at + word.len()
+}
 
 // The decimal digits of n, by the kit's `itoa`: a `write!` to the line would have an error that cannot come. There are at most 20.
 pub fn push_decimal<const N: usize>(line: &mut ArrayString<N>, n: usize)
@@ -99,14 +110,15 @@ pub fn push_refused<const N: usize>(line: &mut ArrayString<N>, number: usize, re
 pub fn write_line<W: Write, E: Write>(
     output: &mut W,
     errors: &mut E,
-    name: &str,
-    line: &str,
+    name: &[u8],
+    line: &[u8],
 ) -> bool
     ensures { OnTrue result (Appends (W.contents output.old) (W.contents output.new) line.now) }
 {
-    if output.write_all(line.as_bytes()).is_ok() {
+    if output.write_all(line).is_ok() {
         return true;
     }
-    let _ = writeln!(errors, "{name}: the line could not be written");
+    let _ = errors.write_all(name);
+    let _ = errors.write_all(b": the line could not be written\n");
     false
 }

@@ -1,6 +1,9 @@
 // Which lines of the list belong to an image. What these functions require, their callers in this program keep; no other crate can reach them.
-ghost use Rattle.std.specs.Prelude.{◌≡◌, Some, ◌≤◌};
+ghost use Rattle.std.specs.Prelude.{◌≡◌, Some, ℕ, ◌≤◌, nat_lt};
+ghost use Rattle.case_list.specs.Cases.{is_mark};
 ghost use Rattle.load_replay.specs.Marks.{number_of, mark_of, end_of};
+
+use case_list::Cases;
 
 // The mark of an answer's line: one to an image that ends in a line feed, or one to an image that does not.
 #[derive(Clone, Copy, Debug, PartialEq, Eq)]
@@ -30,4 +33,12 @@ pub fn answer_mark(first: u8) -> Option<Mark>
         b'~' => Some(Mark::Tilde),
         _ => None,
     }
+}
+
+// The cases of a list. The line of an answer is one that has a mark.
+pub fn cases_of(list: &[u8]) -> Cases<'_>
+    ensures list { result.list.now ≡ list.now }
+    ensures marks { (first : ℕ) → is_mark result.marks.now first ≡ nat_lt 0 (mark_of first) }
+{
+    Cases { list, marks: b"=~" }
 }

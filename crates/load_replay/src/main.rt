@@ -9,11 +9,11 @@
 mod list;
 
 use arrayvec::{ArrayString, ArrayVec};
-use case_list::{Case, Cases, Tally, Verdict, read_full};
+use case_list::{Case, Tally, Verdict, read_full};
 use image::{IMAGE_MOST, LoadAnswer, Reason, Refusal, least, load};
 use line_digits::{hex, line_end};
 use line_output::push_decimal;
-use list::{answer_mark, image_end};
+use list::{answer_mark, cases_of, image_end};
 use std::io::Result;
 
 // An answer, as the list has it behind its mark. The longest is that of a refusal, with two numbers of 20 digits at most.
@@ -112,7 +112,7 @@ fn without_line_feed(case: Case<'_>) -> Case<'_> {
 // All cases of the list; what stands after the last answer is one malformed case.
 fn replay(rt: &impl Print, list: &[u8]) -> Result<Tally> {
     let mut tally = Tally::default();
-    for case in (Cases { list, marks: b"=~" }) {
+    for case in cases_of(list) {
         tally = judge(rt, tally, without_line_feed(case))?;
     }
     Ok(tally)

@@ -6,6 +6,8 @@ use lib.Ieee.Bits.{of_bits-to_bits}
 use lib.Ieee.Fits.{round_is}
 use lib.Ieee.Nearest.{closest}
 use borrow.Author.Tests.{lt-leb}
+use Rattle.numbers.specs.declared.CastTarget.{CastTarget}
+use Rattle.numbers.specs.declared.Number.{Number}
 use Rattle.numbers.specs.declared.Number.TheVariants.{Int}
 use Rattle.numbers.specs.declared.NumberFault.TheVariants.{InvalidCast}
 use Rattle.numbers.specs.declared.IntKind.{IntKind}
@@ -13,8 +15,9 @@ use Rattle.numbers.specs.declared.IntKind.TheVariants.{I64, U64}
 use Rattle.number_casts.specs.declared.WholePart.{WholePart}
 use Rattle.number_casts.specs.declared.WholePart.TheVariants.{Below64, Below127}
 use Rattle.numbers.specs.Kinds.{int_kind_code, in_range, as_kind, low_bits, wrapping}
+use Rattle.numbers.specs.Scalars.{Scalar, scalar_of}
 use Rattle.numbers.specs.Answers.{pick}
-use Rattle.numbers.specs.Casts.{cast_integer}
+use Rattle.numbers.specs.Casts.{cast_to, cast_of, truncated, as_float, cast_integer}
 use Rattle.number_casts.proofs.Whole.{below64, below127}
 use Rattle.number_casts.specs.Whole.{whole_part_of}
 use Rattle.numbers.proofs.Signs.{signed}
@@ -190,3 +193,8 @@ pub float_neg : (n : ℕ) → (n ≡ 0 → ⊥) → neg (of_int binary64 (pos n)
 unfolding of_int
 float_neg zero z = absurd (z refl)
 float_neg (suc n) z = neg_round binary64 (suc n) 1
+
+-- ---- the cast of a number, from what it stands for
+pub cast_scalar : (t : CastTarget) (a : Number) (s : Scalar) → s ≡ scalar_of a → cast_to t (truncated s) (as_float s) ≡ cast_of t a
+unfolding cast_of
+cast_scalar t a s e = ap (λ (y : Scalar). cast_to t (truncated y) (as_float y)) e

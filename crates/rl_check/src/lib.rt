@@ -12,7 +12,7 @@ ghost use Rattle.rl_check.specs.Check.{Checks, Ready, Judges};
 use clearing::clear;
 use image::{Loaded, load};
 use load_answers::clear_load;
-pub use numbers_of::CheckNumbers;
+pub use numbers_of::{CheckNumbers, fault_number};
 use stack_check::Work;
 
 // What `check` answers: a refusal with its line, a pass, or the fault with chunk and offset. specs/Check.antt, `answer_of`, gives document 01's

@@ -1,7 +1,16 @@
 // An answer of `check` as plain numbers: document 01's number, and its place.
+ghost use Rattle.std.specs.Prelude.{◌≡◌};
+ghost use Rattle.stack_check.specs.Answer.{reason_number};
 ghost use Rattle.rl_check.specs.Numbers.{AreNumbersOf};
 
 use crate::CheckAnswer;
+
+// `usize::from` under a name.
+pub fn fault_number(r: stack_check::Reason) -> usize
+    ensures { result ≡ reason_number r }
+{
+    usize::from(r)
+}
 
 // An answer as numbers. Each is 0 where the answer has none.
 #[derive(Clone, Copy)]

@@ -7,7 +7,8 @@ mod run_export; // `run` for C and Rust
 
 pub use export::rl_vm_check;
 pub use image::IMAGE_MOST;
-pub use rl_check::{CheckAnswer, check};
+pub use load_answers::refusal_number;
+pub use rl_check::{CheckAnswer, check, fault_number};
 pub use rl_run::run;
-pub use run_answers::RunAnswer;
+pub use run_answers::{RunAnswer, stop_number};
 pub use run_export::rl_vm_run;

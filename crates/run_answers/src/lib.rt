@@ -10,7 +10,7 @@ ghost use Rattle.vm_logic.specs.Endings.{EndHeld};
 ghost use Rattle.run_answers.specs.Run.{own, any_short, OwnZero, Ended};
 
 use clearing::clear;
-pub use run_numbers::RunNumbers;
+pub use run_numbers::{RunNumbers, stop_number};
 use value_coding::code_value;
 use vm_acts::{StopReason, Stopped};
 use vm_logic::RunValue;

@@ -5,7 +5,7 @@
 // answer, are counted as malformed. The list is made by tests/stored, which says where its answers come from.
 #![tactic(auto)]
 
-ghost use Rattle.std.specs.Prelude.{◌≤◌, length};
+ghost use Rattle.std.specs.Prelude.{◌≡◌, [], ◌≤◌, length};
 
 use arrayvec::ArrayString;
 use case_list::{Case, Cases, Tally, Verdict, read_full};
@@ -52,9 +52,9 @@ fn asked_in(line: &[u8]) -> Option<Asked<'_>> {
     })
 }
 
-// The runner's line for an image, with this budget and this result slice. The work slices are lent one by one, as `run` asks for them, in one place.
-fn line_of(image: &[u8], budget: usize, res: &mut [u8]) -> Line
-    requires { length res.old ≤ 4096 }
+// The runner's line for an image, with this budget and this result slice, in a text that is lent empty: handed back by value, it would be copied. The work slices are lent one by one, as `run` asks for them, in one place.
+fn push_line(image: &[u8], budget: usize, res: &mut [u8], line: &mut Line)
+    requires { (line.old.bytes ≡ []) × (length res.old ≤ 4096) }
 {
     let mut bytes = [0u8; least::BYTES];
     let mut ends = [0usize; least::ENDS];
@@ -87,18 +87,19 @@ fn line_of(image: &[u8], budget: usize, res: &mut [u8]) -> Line
         &mut cells,
         &mut memo,
     );
-    let mut line = Line::new();
-    push_run(&mut line, answer, res);
-    line
+    push_run(line, answer, res);
 }
 
-// The same with a result slice of `room` bytes; none where it may not be so long.
-fn runs_within(image: &[u8], budget: usize, room: usize) -> Option<Line> {
+// The same with a result slice of `room` bytes; whether it may be so long.
+fn runs_within(image: &[u8], budget: usize, room: usize, line: &mut Line) -> bool
+    requires { line.old.bytes ≡ [] }
+{
     let mut result = [0u8; MOST_ROOM];
     if room <= result.len() {
-        return Some(line_of(image, budget, &mut result[..room]));
+        push_line(image, budget, &mut result[..room], line);
+        return true;
     }
-    None
+    false
 }
 
 // What a case comes to: the line that is answered, without its line feed, beside the list's.
@@ -106,10 +107,14 @@ fn verdict_on(case: Case<'_>) -> Verdict {
     let Some(asked) = asked_in(case.answer) else {
         return Verdict::Malformed;
     };
-    match runs_within(case.image, asked.budget, asked.room) {
-        Some(line) if line.as_bytes().strip_suffix(b"\n") == Some(asked.answer) => Verdict::Agrees,
-        Some(_) => Verdict::Differs,
-        None => Verdict::Malformed,
+    let mut line = Line::new();
+    if !runs_within(case.image, asked.budget, asked.room, &mut line) {
+        return Verdict::Malformed;
+    }
+    if line.as_bytes().strip_suffix(b"\n") == Some(asked.answer) {
+        Verdict::Agrees
+    } else {
+        Verdict::Differs
     }
 }
 

@@ -4,7 +4,7 @@
 
 mod lines; // the line of an answer
 
-ghost use Rattle.std.specs.Prelude.{◌≡◌, List, ℕ, ◌≤◌, ◌<◌, length};
+ghost use Rattle.std.specs.Prelude.{◌≡◌, [], List, ℕ, ◌≤◌, ◌<◌, length};
 ghost use Rattle.definition.specs.Runner.{runner_line};
 ghost use Rattle.image_input.specs.Read.{ReadOf};
 
@@ -16,9 +16,10 @@ use rl_vm::{IMAGE_MOST, least, run};
 // How many instructions a run may begin: document 01 says it of the runner.
 const BUDGET: usize = 1_000_000;
 
-// The line for an image.
-fn answer_line(image: &[u8]) -> Line
-    ensures { result.bytes ≡ runner_line image.now }
+// The line for an image, in a text that is lent empty.
+fn answer_line(image: &[u8], line: &mut Line)
+    requires { line.old.bytes ≡ [] }
+    ensures { line.new.bytes ≡ runner_line image.now }
 {
     let mut result = [0u8; RESULT];
     let mut bytes = [0u8; least::BYTES];
@@ -52,24 +53,25 @@ fn answer_line(image: &[u8]) -> Line
         &mut cells,
         &mut memo,
     );
-    line_of(answer, &result)
+    line_of(answer, &result, line);
 }
 
 // The line for the input of which the first n bytes of `read` were read. It is the same for every such input, also for one that is longer than `read`.
 // The buffer comes with its count, and not as a slice of what was read: that it is full is what tells an input that may be longer (`ReadOf`).
-fn input_line(read: &[u8], n: usize) -> Line
-    requires { (65536 < length read.now) × (n ≤ length read.now) }
-    ensures { (input : List ℕ) → ReadOf read.now n input → result.bytes ≡ runner_line input }
+fn input_line(read: &[u8], n: usize, line: &mut Line)
+    requires { (65536 < length read.now) × (n ≤ length read.now) × (line.old.bytes ≡ []) }
+    ensures { (input : List ℕ) → ReadOf read.now n input → line.new.bytes ≡ runner_line input }
 {
-    answer_line(&read[..n])
+    answer_line(&read[..n], line);
 }
 
 // As the checker's `main`: one function of both would be lent `input_line`, with what that asks and ensures as `F.pre` and `F.post`, and be longer.
 fn main(rt: HostRuntime) {
     let mut read = [0u8; IMAGE_MOST + 1];
     let mut errors = rt.stderr();
-    if let Some(n) = read_input(&mut rt.stdin(), &mut errors, "runner", &mut read).bytes() {
-        let line = input_line(&read, n);
-        write_line(&mut rt.stdout(), &mut errors, "runner", line.as_str());
+    if let Some(n) = read_input(&mut rt.stdin(), &mut errors, b"runner", &mut read).bytes() {
+        let mut line = Line::new();
+        input_line(&read, n, &mut line);
+        write_line(&mut rt.stdout(), &mut errors, b"runner", line.as_bytes());
     }
 }

@@ -3,6 +3,7 @@
 ghost use Rattle.std.specs.Prelude.{[], ◌∷◌, ◌≤◌, length};
 ghost use Rattle.definition.specs.Value.{arr};
 ghost use Rattle.clearing.specs.Zero.{AllZero};
+ghost use Rattle.values.specs.Words.{Fit};
 ghost use Rattle.values.specs.Building.{Builds};
 ghost use Rattle.shared_values.specs.Nested.{NestedAsks, GrownGives, NestedGives, ComparedGives, CodedGives};
 
@@ -12,7 +13,7 @@ use values::{BuildFault, SequenceKind, VmValue};
 
 // The value [x, y].
 fn pair(cells: &mut [u64], nc: usize, x: VmValue, y: VmValue) -> Result<VmValue, BuildFault>
-    requires { (8192 ≤ length cells.old) × (nc ≤ 4096) }
+    requires { (8192 ≤ length cells.old) × (nc ≤ 4096) × Fit x × Fit y }
     ensures { Builds arr (x ∷ y ∷ []) nc cells.old cells.new result }
 {
     let mut parts = [0u64; 4];
@@ -28,12 +29,11 @@ fn grow(
     x: VmValue,
     y: VmValue,
 ) -> Result<(VmValue, VmValue), BuildFault>
-    requires { (8192 ≤ length cells.old) × (nc ≤ 4096) }
+    requires { (8192 ≤ length cells.old) × (nc ≤ 4096) × Fit x × Fit y }
     ensures { GrownGives x y nc cells.old cells.new result }
 {
-    let (left, right) = (x, x);
     let v = pair(cells, nc, x, y)?;
-    let w = pair(cells, nc + 2, left, right)?;
+    let w = pair(cells, nc + 2, x, x)?;
     Ok((v, w))
 }
 

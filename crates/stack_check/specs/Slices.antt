@@ -1,5 +1,5 @@
 -- The slices that the check is lent.
-use Rattle.std.specs.Prelude.{◌≡◌, ℕ}
+use Rattle.std.specs.Prelude.{◌≡◌, ℕ, length}
 use Rattle.clearing.specs.Zero.{AllZero}
 use Rattle.stack_check.specs.declared.ChunkCode.{ChunkCode}
 use Rattle.stack_check.specs.declared.Node.{Node}
@@ -13,6 +13,11 @@ pub record SameSlices (w w' : Work) : Type 0 where
   pub heights : w'.heights.ghost_name ≡ w.heights.ghost_name
   pub depths : w'.depths.ghost_name ≡ w.depths.ghost_name
   pub todo : w'.todo.ghost_name ≡ w.todo.ghost_name
+
+-- they are as long as they were
+abbrev pub AsLong : Work → Work → Type 0
+AsLong w w' =
+    (length w'.heights.now ≡ length w.heights.now) × (length w'.depths.now ≡ length w.depths.now) × (length w'.todo.now ≡ length w.todo.now)
 
 abbrev pub Cleared : Work → Type 0
 Cleared w = AllZero w.heights.now × AllZero w.depths.now × AllZero w.todo.now

@@ -235,12 +235,13 @@ fn fault_reason(chunk: ChunkCode, at: usize) -> Reason
 }
 
 impl<'a> Work<'a> {
-    ghost use Rattle.stack_check.specs.Slices.{SameSlices, Searching, VisitedIn, SpreadIn, HandlingIn, Cleared};
+    ghost use Rattle.stack_check.specs.Slices.{SameSlices, AsLong, Searching, VisitedIn, SpreadIn, HandlingIn, Cleared};
 
     // Control comes to `to` with height h and depth d.
     fn visit(&mut self, chunk: ChunkCode, s: Search, to: usize, h: usize, d: usize) -> Search
         requires { Searching chunk self.old s × Coming (chunk_in chunk) s.tail to h d }
         ensures visited { VisitedIn chunk.entry self.old self.new s result to h d }
+        ensures long { AsLong self.old self.new }
         ensures same { SameSlices self.old self.new }
     {
         let broken = Search { bad: true, ..s };
@@ -274,6 +275,7 @@ impl<'a> Work<'a> {
     fn spread(&mut self, chunk: ChunkCode, s: Search, node: Node, h: usize, d: usize) -> Search
         requires { Searching chunk self.old s × ((t : ℕ) → Goes node t → Coming (chunk_in chunk) s.tail t h d) }
         ensures spread { SpreadIn chunk.entry self.old self.new s result node h d }
+        ensures long { AsLong self.old self.new }
         ensures same { SameSlices self.old self.new }
     {
         if node.ends {
@@ -289,6 +291,7 @@ impl<'a> Work<'a> {
     fn handle(&mut self, chunk: ChunkCode, s: Search, at: usize, i: Instr) -> Search
         requires { Searching chunk self.old s × Listed (chunk_in chunk) self.old.heights.now at × (fault (chunk_in chunk) at ≡ 0) × Here (chunk_in chunk) at i }
         ensures handled { HandlingIn chunk.entry self.old self.new s result at }
+        ensures long { AsLong self.old self.new }
         ensures same { SameSlices self.old self.new }
     {
         let node = node_of(i);
@@ -308,7 +311,7 @@ impl<'a> Work<'a> {
         requires { Searching chunk self.old s × (s.head < s.tail) }
         ensures progress { Searching chunk.entry self.new result }
         ensures onward { result.head ≡ s.head + 1 }
-        ensures long { length self.new.heights.now ≡ length self.old.heights.now }
+        ensures long { AsLong self.old self.new }
         ensures same { SameSlices self.old self.new }
     {
         let head = s.head;
@@ -344,7 +347,7 @@ impl<'a> Work<'a> {
         requires { Searching chunk self.old begun }
         ensures progress { Searching chunk.entry self.new result }
         ensures ended { result.tail ≤ result.head }
-        ensures long { length self.new.heights.now ≡ length self.old.heights.now }
+        ensures long { AsLong self.old self.new }
         ensures same { SameSlices self.old self.new }
     {
         let mut s = begun;
@@ -359,7 +362,7 @@ impl<'a> Work<'a> {
     fn judge(&mut self, chunk: ChunkCode) -> Result<(), ChunkFault>
         requires { length chunk.code.now ≤ length self.old.heights.now }
         ensures answer { ChunkIs (chunk_in chunk.entry) result }
-        ensures long { length self.new.heights.now ≡ length self.old.heights.now }
+        ensures long { AsLong self.old self.new }
         ensures same { SameSlices self.old self.new }
     {
         let n = chunk.code.len();
@@ -388,6 +391,7 @@ impl<'a> Work<'a> {
     // Back to zero, to the end of each slice.
     fn clear(&mut self)
         ensures cleared { Cleared self.new }
+        ensures long { AsLong self.old self.new }
         ensures same { SameSlices self.old self.new }
     {
         clear(self.heights);
@@ -400,6 +404,7 @@ impl<'a> Work<'a> {
         requires { length code.now ≤ length self.old.heights.now }
         ensures answer { ChunkDecided code.now kinds.now result }
         ensures cleared { Cleared self.new }
+        ensures long { AsLong self.old self.new }
         ensures same { SameSlices self.old self.new }
     {
         let answer = self.judge(ChunkCode { code, kinds });
@@ -411,7 +416,7 @@ impl<'a> Work<'a> {
     fn judge_row(&mut self, image: Loaded, c: usize) -> Result<(), ChunkFault>
         requires { RowLent image c (length self.old.heights.now) }
         ensures answer { RowDecided image.entry c result }
-        ensures long { length self.new.heights.now ≡ length self.old.heights.now }
+        ensures long { AsLong self.old self.new }
         ensures same { SameSlices self.old self.new }
     {
         let row = 4 * c;
@@ -424,6 +429,7 @@ impl<'a> Work<'a> {
     fn judge_all(&mut self, image: Loaded) -> Result<(), ImageFault>
         requires { Lent image (length self.old.heights.now) }
         ensures answer { Decided image.entry result }
+        ensures long { AsLong self.old self.new }
         ensures same { SameSlices self.old self.new }
     {
         for c in 0..image.counts.chunks {
@@ -444,6 +450,7 @@ impl<'a> Work<'a> {
         requires { Lent image (length self.old.heights.now) }
         ensures answer { Decided image.entry result }
         ensures cleared { Cleared self.new }
+        ensures long { AsLong self.old self.new }
         ensures same { SameSlices self.old self.new }
     {
         let answer = self.judge_all(image);

@@ -6,3 +6,4 @@ pub mod Carries
 pub mod Takes
 pub mod Leaves
 pub mod Refused
+pub mod Same

@@ -16,7 +16,7 @@ pair-requires-2 c =
     let pre = c.requires in
     let same = c.pair.auto.cells in
     let room = c.in_ok-v.ensures.room in
-    (omega (arith, pre.0), room)
+    (omega (arith, pre.0), room, pre.2, pre.2)
 
 pub returns-in_err-w : goal.returns-in_err-w
 returns-in_err-w c =

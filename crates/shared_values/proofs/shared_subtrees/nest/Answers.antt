@@ -14,7 +14,7 @@ loop-init c = (omega arith, refl, λ l m e f. first_twins c.args.leaf c.args.las
 pub grow-requires : goal.grow-requires
 grow-requires c =
     let t = c.loop.invariant.2 c.args.leaf c.args.last refl refl in
-    (t.path.asks.words, t.path.asks.few)
+    (t.path.asks.words, t.path.asks.few, t.fit, t.path.fit)
 
 pub returns-in_err-v : goal.returns-in_err-v
 returns-in_err-v c =

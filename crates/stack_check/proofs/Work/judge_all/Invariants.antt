@@ -1,14 +1,13 @@
 -- Each turn judges one chunk: those below c pass, so the first that does not is the lowest, and at the end all pass.
 
-use Rattle.std.proofs.Common.{◌≡◌, length}
 use Rattle.stack_check.specs.Answer.{PassBelow}
-use Rattle.stack_check.specs.Slices.{SameSlices}
+use Rattle.stack_check.specs.Slices.{SameSlices, AsLong}
 use Rattle.stack_check.proofs.Work.judge_all.Given as goal
 
 abbrev pub invariant-loop-c : goal.invariant-loop-c
 invariant-loop-c l =
     record {
       pass : PassBelow l.image l.c;
-      long : length l.self.heights.now ≡ length l.initial.self.heights.now;
+      long : AsLong l.initial.self l.self;
       same : SameSlices l.initial.self l.self;
     }

@@ -1,0 +1,2 @@
+-- One file: the marks of the list.
+pub mod Marked
