@@ -85,6 +85,20 @@ fn sheets_have_their_lines() {
     }
 }
 
+/// A Closure of the last chunk, with the greatest capture start: the greatest numbers of a value that a run ends in.
+#[test]
+fn a_run_ends_in_the_greatest_closure() {
+    let chunk = "02000000\n";
+    let code = "0314003F\n04230000FFFF13\n"; // BuildClosure of chunk 63 from slot 65,535 on, Return
+    let image = format!("0163\n{chunk}{code}{}05\n", chunk.repeat(63));
+    let line = "value 2 19003FFFFF0000";
+    assert_eq!(modelled("runner", image.as_bytes()), line);
+    assert_eq!(
+        run("runner", Input::Bytes(image.as_bytes()), Output::Read),
+        said(line)
+    );
+}
+
 #[test]
 fn an_empty_input_has_no_end() {
     both_say(b"", "refused 6 0");
